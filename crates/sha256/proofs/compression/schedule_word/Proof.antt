@@ -1,0 +1,33 @@
+-- `sha256::compression::schedule_word` meets its contract: the sums wrap as the standard's do.
+use borrow.Author.Needs.{needs}
+use Rattle.sha256.proofs.compression.schedule_word.Statement.{statement}
+use Rattle.sha256.proofs.compression.schedule_word.Tie as tie
+
+lower-sigma1-requires : tie.Need-lower-sigma1-requires
+lower-sigma1-requires c κs = search needs
+
+wrapping-add-u32-requires : tie.Need-wrapping-add-u32-requires
+wrapping-add-u32-requires c κs = search needs
+
+lower-sigma0-requires : tie.Need-lower-sigma0-requires
+lower-sigma0-requires c κs = search needs
+
+wrapping-add-u32-requires-2 : tie.Need-wrapping-add-u32-requires-2
+wrapping-add-u32-requires-2 c κs = search needs
+
+wrapping-add-u32-requires-3 : tie.Need-wrapping-add-u32-requires-3
+wrapping-add-u32-requires-3 c κs = search needs
+
+returns : tie.Need-returns
+returns c = cc
+
+pub schedule-word-spec : {M : Type 1} → statement M
+schedule-word-spec =
+    tie.close
+    (tie.spec
+    lower-sigma1-requires
+    wrapping-add-u32-requires
+    lower-sigma0-requires
+    wrapping-add-u32-requires-2
+    wrapping-add-u32-requires-3
+    returns)

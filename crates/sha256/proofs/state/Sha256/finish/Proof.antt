@@ -1,0 +1,103 @@
+-- The padding goes behind the bytes that the state holds (`sha256-ending`): the block has room for it if they are fewer than 56,
+-- and else it takes a block more.
+use borrow.Author.Needs.{needs}
+use mathlib.Core.Path.{_≡_, sym, ap, ap₂, _∙_}
+use mathlib.Core.List.{List}
+use Prim.Native.Nat.{ℕ, _*_, _%_}
+use native.Mathlib.Omega.{arith}
+use lib.ListN.{length, length-set, replicate, set}
+use Rattle.sha256.specs.Fips.{bigEndian, digest, H₀}
+use Rattle.sha256.specs.declared.words.Words.{Words}
+use Rattle.sha256.proofs.Blocks.{over, over-whole, put, sha256-ending, stands-length, stands-one, stands-two}
+use Rattle.sha256.proofs.state.Sha256.finish.Statement.{statement}
+use Rattle.sha256.proofs.state.Sha256.finish.Tie as tie
+
+length-bytes-requires : tie.Need-length-bytes-requires
+length-bytes-requires c κs = search needs
+
+slice-aggregate-put : tie.Need-slice-aggregate-put
+slice-aggregate-put c = search needs
+
+put-requires : tie.Need-put-requires
+put-requires c κs = search needs
+
+array-write-end : tie.Need-array-write-end
+array-write-end c = search needs
+
+slice-aggregate-blocks : tie.Need-slice-aggregate-blocks
+slice-aggregate-blocks c = search needs
+
+blocks-requires : tie.Need-blocks-requires
+blocks-requires c κs = search needs
+
+digest-requires : tie.Need-digest-requires
+digest-requires c κs = search needs
+
+returns : tie.Need-returns
+returns c m h =
+    let self = c .before .before .before .before .before .before .before .before .before .before .args .self in
+    let bits = c .before .before .before .before .before .before .before .before .length-bytes .ensures in
+    let end = c .before .before .before .put .ensures ∙ ap (put (self .block) 56) bits in
+    let last = ap (λ (b : List ℕ). set b (self .length % 64) 128) end ∙ stands-one m h (omega arith) in
+    c .digest .ensures ∙ ap digest (c .before .blocks2 .ensures ∙ ap₂ over (h .words) last) ∙ sym (sha256-ending m)
+
+array-write-last : tie.Need-array-write-last
+array-write-last c = search needs
+
+slice-aggregate-put-2 : tie.Need-slice-aggregate-put-2
+slice-aggregate-put-2 c = search needs
+
+put-requires-2 : tie.Need-put-requires-2
+put-requires-2 c κs = search needs
+
+slice-aggregate-blocks-2 : tie.Need-slice-aggregate-blocks-2
+slice-aggregate-blocks-2 c = search needs
+
+blocks-requires-2 : tie.Need-blocks-requires-2
+blocks-requires-2 c κs = search needs
+
+slice-aggregate-blocks-3 : tie.Need-slice-aggregate-blocks-3
+slice-aggregate-blocks-3 c = search needs
+
+blocks-requires-3 : tie.Need-blocks-requires-3
+blocks-requires-3 c κs = search needs
+
+digest-requires-2 : tie.Need-digest-requires-2
+digest-requires-2 c κs = search needs
+
+returns-2 : tie.Need-returns-2
+returns-2 c m h =
+    let self = c .before .before .before .before .before .before .before .before .before .before .before .before .args .self in
+    let bits = c .before .before .before .before .before .before .before .before .before .before .length-bytes .ensures in
+    let last = set (self .block) (self .length % 64) 128 in
+    let end = c .before .before .before .before .before .put2 .ensures ∙ ap (put (replicate 64 0) 56) bits in
+    let whole : length last % 64 ≡ 0 = omega (arith, length-set (self .block) (self .length % 64) 128, stands-length m h) in
+    c .digest2 .ensures
+    ∙ ap digest
+    (c .before .blocks4 .ensures
+    ∙ ap₂ over (c .before .before .before .blocks3 .ensures ∙ ap (λ (s : Words). over s last) (h .words)) end
+    ∙ over-whole last (put (replicate 64 0) 56 (bigEndian 8 (8 * self .length))) (over H₀ m) whole
+    ∙ ap (over (over H₀ m)) (stands-two m h (omega arith)))
+    ∙ sym (sha256-ending m)
+
+pub finish-spec : {M : Type 1} → statement M
+finish-spec =
+    tie.close
+    (tie.spec
+    length-bytes-requires
+    slice-aggregate-put
+    put-requires
+    array-write-end
+    slice-aggregate-blocks
+    blocks-requires
+    digest-requires
+    returns
+    array-write-last
+    slice-aggregate-put-2
+    put-requires-2
+    slice-aggregate-blocks-2
+    blocks-requires-2
+    slice-aggregate-blocks-3
+    blocks-requires-3
+    digest-requires-2
+    returns-2)

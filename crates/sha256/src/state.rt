@@ -1,0 +1,179 @@
+// A hash state that takes a message part after part.
+ghost use mathlib.Core.Path.{_≡_};
+ghost use mathlib.Core.List.{List, [], _++_};
+ghost use Prim.Native.Nat.{ℕ, _+_, _*_, _≤_, _<_};
+ghost use lib.ListN.{length, take, drop};
+ghost use Rattle.sha256.specs.Fips as Fips;
+ghost use Rattle.sha256.specs.State.{Held, Stands};
+use crate::compression::blocks;
+use crate::words::Words;
+
+// The words after the whole blocks, the bytes after them with zeros behind them, and the length so far.
+pub struct Sha256 {
+    pub words: Words,
+    pub block: [u8; 64],
+    pub length: u64,
+}
+
+impl Sha256 {
+    // The starting words of 5.3.3.
+    pub const H0: u32 = 0x6a09e667;
+
+    pub const H1: u32 = 0xbb67ae85;
+
+    pub const H2: u32 = 0x3c6ef372;
+
+    pub const H3: u32 = 0xa54ff53a;
+
+    pub const H4: u32 = 0x510e527f;
+
+    pub const H5: u32 = 0x9b05688c;
+
+    pub const H6: u32 = 0x1f83d9ab;
+
+    pub const H7: u32 = 0x5be0cd19;
+
+    // The state that stands for the empty message.
+    pub fn new() -> Self
+        ensures { λ r. ⌜ Stands r [] ⌝ }
+    {
+        Self {
+            words: Words {
+                a: Self::H0,
+                b: Self::H1,
+                c: Self::H2,
+                d: Self::H3,
+                e: Self::H4,
+                f: Self::H5,
+                g: Self::H6,
+                h: Self::H7,
+            },
+            block: [0; 64],
+            length: 0,
+        }
+    }
+
+    // From the state that stands for m, the one that stands for m followed by the part.
+    pub fn update(self, part: &[u8]) -> Self
+        ensures { λ r. ⌜ ((m : List ℕ) → Stands self m → Stands r (m ++ now (part .entry))) ⌝ }
+    {
+        let n = (self.length % 64) as usize;
+        let length = std::num::wrapping_add_u64(self.length, part.len() as u64);
+        let words = self.words;
+        let block = self.block;
+        let free = 64 - n;
+        if part.len() < free {
+            return Self {
+                words,
+                block: put(block, n, part),
+                length,
+            };
+        }
+        if n == 0 {
+            return whole(words, part, length);
+        }
+        let full = put(block, n, &part[..free]);
+        whole(blocks(words, &full), &part[free..], length)
+    }
+
+    // The digest of the message that the state stands for.
+    pub fn finish(self) -> [u8; 32]
+        ensures { λ r. ⌜ ((m : List ℕ) → Stands self m → r ≡ Fips.sha256 m) ⌝ }
+    {
+        let n = (self.length % 64) as usize;
+        let bits = length_bytes(self.length);
+        let words = self.words;
+        let block = self.block;
+        if n < 56 {
+            let mut end = put(block, 56, &bits);
+            end[n] = 128;
+            return digest(blocks(words, &end));
+        }
+        let mut last = block;
+        last[n] = 128;
+        let end = put([0; 64], 56, &bits);
+        digest(blocks(blocks(words, &last), &end))
+    }
+}
+
+// The state after a part that starts at a block's start: its whole blocks are hashed where they lie, and the rest is kept.
+fn whole(words: Words, part: &[u8], length: u64) -> Sha256
+    ensures { λ r. ⌜ Held words (now (part .entry)) length r ⌝ }
+{
+    let at = part.len() / 64 * 64;
+    Sha256 {
+        words: blocks(words, part),
+        block: put([0; 64], 0, &part[at..]),
+        length,
+    }
+}
+
+// The block with the part written at a place.
+pub fn put(block: [u8; 64], at: usize, part: &[u8]) -> [u8; 64]
+    requires { ⌜ at + length (now part) ≤ 64 ⌝ }
+    ensures { λ r. ⌜ r ≡ take at block ++ now (part .entry) ++ drop (at + length (now (part .entry))) block ⌝ }
+{
+    let mut b = block;
+    let mut i = 0;
+    while i < part.len() {
+        b[at + i] = part[i];
+        i += 1;
+    }
+    b
+}
+
+// The length in bits, as 8 bytes.
+fn length_bytes(length: u64) -> [u8; 8]
+    ensures { λ r. ⌜ r ≡ Fips.bigEndian 8 (8 * length) ⌝ }
+{
+    let n = length % 0x2000000000000000 * 8;
+    [
+        (n / 256 / 256 / 256 / 256 / 256 / 256 / 256 % 256) as u8,
+        (n / 256 / 256 / 256 / 256 / 256 / 256 % 256) as u8,
+        (n / 256 / 256 / 256 / 256 / 256 % 256) as u8,
+        (n / 256 / 256 / 256 / 256 % 256) as u8,
+        (n / 256 / 256 / 256 % 256) as u8,
+        (n / 256 / 256 % 256) as u8,
+        (n / 256 % 256) as u8,
+        (n % 256) as u8,
+    ]
+}
+
+fn digest(s: Words) -> [u8; 32]
+    ensures { λ r. ⌜ r ≡ Fips.digest s ⌝ }
+{
+    [
+        (s.a / 256 / 256 / 256 % 256) as u8,
+        (s.a / 256 / 256 % 256) as u8,
+        (s.a / 256 % 256) as u8,
+        (s.a % 256) as u8,
+        (s.b / 256 / 256 / 256 % 256) as u8,
+        (s.b / 256 / 256 % 256) as u8,
+        (s.b / 256 % 256) as u8,
+        (s.b % 256) as u8,
+        (s.c / 256 / 256 / 256 % 256) as u8,
+        (s.c / 256 / 256 % 256) as u8,
+        (s.c / 256 % 256) as u8,
+        (s.c % 256) as u8,
+        (s.d / 256 / 256 / 256 % 256) as u8,
+        (s.d / 256 / 256 % 256) as u8,
+        (s.d / 256 % 256) as u8,
+        (s.d % 256) as u8,
+        (s.e / 256 / 256 / 256 % 256) as u8,
+        (s.e / 256 / 256 % 256) as u8,
+        (s.e / 256 % 256) as u8,
+        (s.e % 256) as u8,
+        (s.f / 256 / 256 / 256 % 256) as u8,
+        (s.f / 256 / 256 % 256) as u8,
+        (s.f / 256 % 256) as u8,
+        (s.f % 256) as u8,
+        (s.g / 256 / 256 / 256 % 256) as u8,
+        (s.g / 256 / 256 % 256) as u8,
+        (s.g / 256 % 256) as u8,
+        (s.g % 256) as u8,
+        (s.h / 256 / 256 / 256 % 256) as u8,
+        (s.h / 256 / 256 % 256) as u8,
+        (s.h / 256 % 256) as u8,
+        (s.h % 256) as u8,
+    ]
+}
