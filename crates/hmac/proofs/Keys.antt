@@ -1,0 +1,65 @@
+-- Laws of a list that is mapped from its front on, and of the padded key.
+use mathlib.Core.Path.{_≡_, sym, _∙_, ap, subst}
+use mathlib.Core.List.{List, [], _∷_, _++_, map, map-append, append-nil}
+use Prim.Native.Nat.{ℕ, zero, suc, _+_, _-_, _<_, _≤_}
+use native.Mathlib.Nat.{zero-add}
+use native.Mathlib.Omega.{arith}
+use borrow.Author.Tests.{le-leb, lt-leb}
+use lib.Bits.{bitXor}
+use lib.ListN.{length, getD, take, drop, set, replicate, length-map, length-replicate, replicate-append-replicate}
+use lib.Seq.{drop-cons, take-suc, length-take-le, append-snoc, set-at, getD-at, take-all, drop-length, drop-at}
+use Rattle.sha256.specs.Fips.{sha256}
+use Rattle.sha256.specs.State.{Stands}
+use Rattle.sha256.specs.declared.state.Sha256.{Sha256}
+use Rattle.hmac.specs.Rfc2104.{shortened, padded, masked}
+
+-- the first i entries mapped, the others as they were
+abbrev pub mapped : (ℕ → ℕ) → List ℕ → ℕ → List ℕ
+mapped f l i = map f (take i l) ++ drop i l
+
+module _ (f : ℕ → ℕ) (l : List ℕ) (i : ℕ) (within : i < length l) where
+  front : length (map f (take i l)) ≡ i
+  front = length-map (take i l) f ∙ length-take-le i l (omega arith)
+
+  pub mapped-at : getD (mapped f l i) i 0 ≡ getD l i 0
+  mapped-at = rw (drop-cons l i 0 within) (getD-at (map f (take i l)) (getD l i 0) (drop (suc i) l) 0 i front)
+
+  pub mapped-more : set (mapped f l i) i (f (getD l i 0)) ≡ mapped f l (suc i)
+  mapped-more =
+      rw (drop-cons l i 0 within)
+      (set-at (map f (take i l)) (getD l i 0) (drop (suc i) l) (f (getD l i 0)) i front ∙
+      sym (rw (take-suc l i 0 within, map-append) (append-snoc (map f (take i l)) (f (getD l i 0)) (drop (suc i) l))))
+
+pub mapped-all : (f : ℕ → ℕ) (l : List ℕ) (n : ℕ) → length l ≡ n → mapped f l n ≡ map f l
+mapped-all f l n e = rw (← e) (ap (λ xs. map f xs ++ drop (length l) l) (take-all (length l) l (omega arith)) ∙ ap (λ xs. map f l ++ xs) (drop-length l) ∙ append-nil (map f l))
+
+-- what is left of a row of zeros
+zeros-left : (n m : ℕ) → n ≤ m → drop {A = ℕ} n (replicate m 0) ≡ replicate (m - n) 0
+zeros-left n m h =
+    let zeros : ℕ → List ℕ = λ k. replicate k 0 in
+    let whole : m ≡ n + (m - n) = omega arith in
+    ap (λ k. drop n (zeros k)) whole ∙ ap (drop n) (sym (replicate-append-replicate n (m - n) 0)) ∙
+    drop-at (zeros n) (zeros (m - n)) n (length-replicate n 0)
+
+-- a short key at the front of a block of zeros is the padded key
+pub padded-block : (key short block : List ℕ) → shortened key ≡ short → length short ≤ 64
+    → block ≡ take 0 (replicate 64 0) ++ short ++ drop (0 + length short) (replicate 64 0) → block ≡ padded key
+unfolding padded
+padded-block key short block chosen fits laid =
+    laid ∙ ap (λ xs. short ++ xs) (rw zero-add (zeros-left (length short) 64 fits)) ∙
+    ap (λ s. s ++ replicate (64 - length s) 0) (sym chosen)
+
+pub key-taken : (key : List ℕ) → length key ≤ 64 → shortened key ≡ key
+unfolding shortened
+key-taken key h = rw (le-leb (length key) 64 h)
+
+pub key-hashed : (key : List ℕ) → 64 < length key → shortened key ≡ sha256 key
+unfolding shortened
+key-hashed key h = rw (lt-leb (length key) 64 h)
+
+-- a state that has absorbed the masked block stands for it
+pub absorbed : {s : Sha256} {b : List ℕ} (p : ℕ) (key block : List ℕ) → block ≡ padded key → b ≡ map (λ k. bitXor k p) block
+    → Stands s b → Stands s (masked p key)
+unfolding masked
+absorbed {s} p key block laid mapping stands =
+    subst (Stands s) (mapping ∙ ap (map (λ k. bitXor k p)) laid) stands

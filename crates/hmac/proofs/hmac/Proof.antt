@@ -1,0 +1,56 @@
+-- `hmac::hmac` meets its contract: each refusal is its test's, and the keyed state's tag is HMAC's.
+use mathlib.Core.Path.{_∙_, ap}
+use borrow.Author.Tests.{le-leb, lt-leb}
+use Rattle.sha256.specs.Call.{refusalOf}
+use borrow.Author.Needs.{needs}
+use Rattle.hmac.proofs.hmac.Statement.{statement}
+use Rattle.hmac.proofs.hmac.Tie as tie
+
+refused-requires : tie.Need-refused-requires
+refused-requires c κs = search needs
+
+returns : tie.Need-returns
+returns c =
+    let long = lt-leb _ _ (c .before .if1 .taken) in
+    record { refusal = ap refusalOf (c .refused .ensures .0) ∙ rw long; bytes = c .refused .ensures .1 ∙ rw long }
+
+refused-requires-2 : tie.Need-refused-requires-2
+refused-requires-2 c κs = search needs
+
+returns-2 : tie.Need-returns-2
+returns-2 c =
+    let taken = le-leb _ _ (c .before .before .if1 .left) in
+    let long = lt-leb _ _ (c .before .if2 .taken) in
+    record {
+      refusal = ap refusalOf (c .refused2 .ensures .0) ∙ rw (taken, long);
+      bytes = c .refused2 .ensures .1 ∙ rw (taken, long);
+    }
+
+new-requires : tie.Need-new-requires
+new-requires c κs = search needs
+
+update-requires : tie.Need-update-requires
+update-requires c κs = search needs
+
+finish-requires : tie.Need-finish-requires
+finish-requires c κs = search needs
+
+returns-3 : tie.Need-returns-3
+returns-3 c =
+    let taken = le-leb _ _ (c .before .before .before .before .if1 .left) in
+    let within = le-leb _ _ (c .before .before .before .if2 .left) in
+    let keyed = c .before .update .ensures _ _ (c .before .before .new .ensures) in
+    record { refusal = rw (taken, within); bytes = rw (taken, within) (c .finish .ensures _ _ keyed) }
+
+pub hmac-spec : {M : Type 1} → statement M
+hmac-spec =
+    tie.close
+    (tie.spec
+    refused-requires
+    returns
+    refused-requires-2
+    returns-2
+    new-requires
+    update-requires
+    finish-requires
+    returns-3)

@@ -1,0 +1,80 @@
+// A keyed state that takes a message part after part. By value, so that one key's state serves any number of messages.
+ghost use mathlib.Core.Path.{_≡_};
+ghost use mathlib.Core.List.{List, [], _++_, map};
+ghost use Prim.Native.Nat.{ℕ};
+ghost use lib.Bits.{bitXor};
+ghost use Rattle.hmac.specs.Rfc2104 as Rfc2104;
+ghost use Rattle.hmac.specs.Keyed.{Keyed};
+use sha256::state::Sha256;
+use sha256::state::put;
+
+// The hash states that have absorbed the key's inner and outer block, the inner one with the message so far behind it.
+pub struct Hmac {
+    pub inner: Sha256,
+    pub outer: Sha256,
+}
+
+const BLOCK_LENGTH: usize = 64;
+
+const IPAD: u8 = 0x36;
+
+const OPAD: u8 = 0x5c;
+
+impl Hmac {
+    // The state that stands for the empty message under the key.
+    pub fn new(key: &[u8]) -> Self
+        ensures { λ r. ⌜ Keyed r (now (key .entry)) [] ⌝ }
+    {
+        let block = padded(key);
+        let inner = masked(block, IPAD);
+        let outer = masked(block, OPAD);
+        Self {
+            inner: Sha256::new().update(&inner),
+            outer: Sha256::new().update(&outer),
+        }
+    }
+
+    // From the state that stands for m, the one that stands for m followed by the part, under the same key.
+    pub fn update(self, part: &[u8]) -> Self
+        ensures { λ r. ⌜ ((key m : List ℕ) → Keyed self key m → Keyed r key (m ++ now (part .entry))) ⌝ }
+    {
+        let inner = self.inner;
+        let outer = self.outer;
+        Self {
+            inner: inner.update(part),
+            outer,
+        }
+    }
+
+    // The tag of the message that the state stands for.
+    pub fn finish(self) -> [u8; 32]
+        ensures { λ r. ⌜ ((key m : List ℕ) → Keyed self key m → r ≡ Rfc2104.hmac key m) ⌝ }
+    {
+        let inner = self.inner;
+        let outer = self.outer;
+        let digest = inner.finish();
+        outer.update(&digest).finish()
+    }
+}
+
+// The key, hashed where it is longer than a block, with zeros behind it.
+fn padded(key: &[u8]) -> [u8; 64]
+    ensures { λ r. ⌜ r ≡ Rfc2104.padded (now (key .entry)) ⌝ }
+{
+    if BLOCK_LENGTH < key.len() {
+        let digest = Sha256::new().update(key).finish();
+        return put([0; 64], 0, &digest);
+    }
+    put([0; 64], 0, key)
+}
+
+// Each byte of the block XOR the byte p.
+fn masked(block: [u8; 64], p: u8) -> [u8; 64]
+    ensures { λ r. ⌜ r ≡ map (λ k. bitXor k p) block ⌝ }
+{
+    let mut b = block;
+    for i in 0..64 {
+        b[i] = b[i] ^ p;
+    }
+    b
+}
