@@ -1,0 +1,10 @@
+-- The laws of the scheme's definitions, cited by the proofs of every crate above.
+pub mod Tests
+pub mod Rules
+pub mod Bytes
+pub mod Splice
+pub mod Numbers
+pub mod Scans
+pub mod Headers
+pub mod Areas
+pub mod Acceptance
