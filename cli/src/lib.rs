@@ -2,6 +2,7 @@
 //! of the static library `pahyndoi`.
 
 mod ffi;
+pub mod model;
 pub mod plain;
 
 pub use ffi::{hmac_sha256_raw, sha256_raw};

@@ -119,7 +119,7 @@ fn lower_sigma1(x: u32) -> u32 {
 
 #[cfg(test)]
 mod tests {
-    use super::{INITIAL_HASH, K};
+    use super::{BLOCK_LENGTH, INITIAL_HASH, K, padding};
 
     /// Whether a prime's root of the given degree has this fractional part,
     /// to 32 bits.
@@ -132,6 +132,12 @@ mod tests {
 
     fn primes() -> impl Iterator<Item = u128> {
         (2..).filter(|n| (2..*n).all(|divisor| n % divisor != 0))
+    }
+
+    #[test]
+    fn padding_of_55_and_of_56_bytes() {
+        assert_eq!(padding(&[7; 55], 55).len(), BLOCK_LENGTH);
+        assert_eq!(padding(&[7; 56], 56).len(), 2 * BLOCK_LENGTH);
     }
 
     #[test]

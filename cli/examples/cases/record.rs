@@ -1,0 +1,43 @@
+//! A script's records: 64 bytes each, the operation first, numbers
+//! little-endian.
+
+pub const RECORD_LENGTH: usize = 64;
+
+/// A label's text: ASCII, zeros behind it.
+pub const LABEL: u8 = 0;
+
+/// New store, memories and state of zeros. 1: kind, 2: phases, 4: chunk count,
+/// 8: N, 12: store length, 16: log memory length, 20: seal memory length.
+pub const MATERIAL: u8 = 1;
+
+/// 1: the number of lengths, 8: seal length (8 bytes), 16: nine lengths.
+pub const OPEN: u8 = 2;
+
+/// 1: phase, 4: data length, 8: the data's first byte.
+pub const APPEND: u8 = 3;
+
+pub const CLOSE: u8 = 4;
+
+/// 1: which field of the state, 2: index or byte, 4: number, 8: number of 8
+/// bytes.
+pub const SET_STATE: u8 = 5;
+
+/// 1: value, 4: index.
+pub const SET_STORE: u8 = 6;
+
+pub const FIELD_CHUNK: u8 = 0;
+pub const FIELD_OFFSET: u8 = 1;
+pub const FIELD_SEAL_LENGTH: u8 = 2;
+pub const FIELD_LOG_LENGTH: u8 = 3;
+pub const FIELD_HELD_KEY: u8 = 4;
+
+/// The most lengths that one record lends.
+pub const LENGTHS_LIMIT: usize = 9;
+
+pub const LENGTHS_START: usize = 16;
+
+/// The longest that a program reading the script must hold.
+pub const STORE_LIMIT: u32 = 40_000;
+pub const LOG_MEMORY_LIMIT: u32 = 65_536;
+pub const SEAL_MEMORY_LIMIT: u32 = 16_384;
+pub const DATA_LIMIT: u32 = 1024;

@@ -1,0 +1,67 @@
+//! The sealing scheme in plain Rust, written from the scheme's paper for
+//! comparison. Independent of the static library and of every proved
+//! definition.
+
+mod account;
+mod audit;
+mod item;
+mod key;
+mod refusal;
+mod sealing;
+mod store;
+#[cfg(test)]
+mod tests;
+
+pub use account::{Account, Call, is_history};
+pub use audit::{Presented, audit, audit_packed};
+pub use item::{ENTRY_LENGTH, FILLER_LENGTH, Head, Item};
+pub use key::{Position, key_at, next_key, position, ratchet_message};
+pub use sealing::{State, append, close, open};
+pub use store::{Header, burned_at_front, chunk, is_burned};
+
+use crate::plain;
+
+/// The length in bytes of a chunk, a key and a tag.
+pub const KEY_LENGTH: usize = 32;
+
+/// The most phases that a store can name.
+pub const PHASE_LIMIT: usize = 8;
+
+/// The bytes of one phase's log in the log memory.
+pub const LOG_CAPACITY: usize = 8192;
+
+/// The longest data of one entry.
+pub const DATA_LIMIT: usize = 512;
+
+/// HMAC-SHA-256 of a message given in parts, under the key given first.
+pub type Hmac = fn(&[u8], &[&[u8]]) -> [u8; KEY_LENGTH];
+
+/// The HMAC of [`plain`].
+pub fn plain_hmac(key: &[u8], message_parts: &[&[u8]]) -> [u8; KEY_LENGTH] {
+    plain::hmac_sha256(key, &message_parts.concat())
+}
+
+/// What a device lends to every call.
+#[derive(Clone, Debug, PartialEq, Eq)]
+pub struct Material {
+    pub store: Vec<u8>,
+    pub log_memory: Vec<u8>,
+    pub seal_memory: Vec<u8>,
+}
+
+/// A call's refusal, 0 where it did its work, and its count or item number.
+#[derive(Clone, Copy, Debug, PartialEq, Eq)]
+pub struct Answer {
+    pub refusal: u32,
+    pub number: u32,
+}
+
+impl Answer {
+    fn done(number: u32) -> Self {
+        Answer { refusal: 0, number }
+    }
+
+    fn refused(refusal: u32) -> Self {
+        Answer { refusal, number: 0 }
+    }
+}

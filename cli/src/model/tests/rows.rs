@@ -1,0 +1,95 @@
+//! The rows to try, but those of the hash.
+
+use super::*;
+
+const TAG: [u8; KEY_LENGTH] = [0xaa; KEY_LENGTH];
+const ITEM_7: Position = Position {
+    chunk: 2,
+    offset: 1,
+};
+const ITEM_8: Position = Position {
+    chunk: 2,
+    offset: 2,
+};
+
+/// The head's bytes, and the item read back from its bytes.
+fn assert_head(head: Head, bytes: &[u8]) {
+    let item = Item { head, tag: TAG };
+    assert_eq!(head.to_bytes(), bytes);
+    assert_eq!(item.to_bytes(), [bytes, &TAG].concat());
+    assert_eq!(Item::parse(&item.to_bytes()), Some(item));
+    assert_eq!(item.to_bytes().len(), item.byte_count());
+}
+
+#[test]
+fn position_of_item_7() {
+    assert_eq!(position(7, 3), ITEM_7);
+    assert_eq!(ITEM_7.item_number(3), 7);
+    assert_eq!(ITEM_7.next(3), ITEM_8);
+    assert_eq!(
+        ITEM_8.next(3),
+        Position {
+            chunk: 3,
+            offset: 0
+        }
+    );
+}
+
+#[test]
+fn bytes_of_an_entry() {
+    let head = Head::Entry {
+        phase: 2,
+        offset: 5,
+        length: 3,
+        position: ITEM_7,
+    };
+    let bytes = [2, 2, 5, 0, 0, 0, 3, 0, 0, 0, 2, 0, 0, 0, 1, 0, 0, 0];
+    assert_head(head, &bytes);
+}
+
+#[test]
+fn bytes_of_a_filler() {
+    let head = Head::Filler { position: ITEM_8 };
+    assert_head(head, &[3, 2, 0, 0, 0, 2, 0, 0, 0]);
+}
+
+#[test]
+fn bytes_of_a_ratchet_message() {
+    assert_eq!(ratchet_message(1, 3), [4, 1, 0, 0, 0, 3, 0, 0, 0]);
+}
+
+#[test]
+fn keys_of_a_chunk() {
+    let chunk = [7; KEY_LENGTH];
+    let second = plain_hmac(&chunk, &[&ratchet_message(1, 3)]);
+    let third = plain_hmac(&second, &[&ratchet_message(2, 3)]);
+    let keys = [0, 1, 2].map(|offset| key_at(plain_hmac, chunk, offset, 3));
+    assert_eq!(keys, [chunk, second, third]);
+}
+
+#[test]
+fn length_of_a_store_of_one_chunk() {
+    let store = store(1, 1, 1);
+    assert_eq!(store.len(), 50);
+    assert!(Header::parse(&store).is_some());
+    assert!(Header::parse(&store[..49]).is_none());
+}
+
+#[test]
+fn second_append_with_one_key() {
+    let mut device = Device::new(1, 1, 1, 1000);
+    assert_eq!(device.append(1, b"a"), (0, 0));
+    assert_eq!(device.append(1, b"b"), (11, 0));
+}
+
+#[test]
+fn close_at_offset_2_and_at_offset_0() {
+    let mut device = Device::new(1, 2, 3, 1000);
+    assert_eq!(device.close(), (0, 0));
+    assert_eq!(device.append(1, b"a"), (0, 0));
+    assert_eq!(device.append(1, b"b"), (0, 1));
+    assert_eq!(device.close(), (0, 1));
+    assert_eq!(device.seal_file()[100..].len(), FILLER_LENGTH);
+    assert_eq!(device.close(), (0, 0));
+    assert_eq!(device.append(1, b"c"), (0, 3));
+}

@@ -1,0 +1,44 @@
+//! The script of `crates/cases` and its output against generator and model.
+
+#[path = "../examples/cases/interpreter.rs"]
+mod interpreter;
+#[path = "../examples/cases/record.rs"]
+mod record;
+#[path = "../examples/cases/script/mod.rs"]
+mod script;
+
+use std::collections::BTreeSet;
+
+const STDIN: &[u8] = include_bytes!("../../crates/cases/stdin");
+const STDOUT: &str = include_str!("../../crates/cases/stdout");
+
+#[test]
+fn script_is_the_generated_one() {
+    assert!(STDIN == script::script());
+}
+
+#[test]
+fn output_is_that_of_the_model() {
+    let output = interpreter::run(STDIN);
+    for (expected, line) in STDOUT.lines().zip(output.lines()) {
+        assert_eq!(line, expected);
+    }
+    assert_eq!(output.len(), STDOUT.len());
+}
+
+/// The refusals of one call that the output shows, 0 for none.
+fn refusals(name: &str) -> Vec<u32> {
+    let calls = STDOUT.lines().filter_map(|line| line.strip_prefix(name));
+    let numbers: BTreeSet<u32> = calls
+        .filter_map(|answer| answer.split(' ').nth(1))
+        .filter_map(|number| number.parse().ok())
+        .collect();
+    numbers.into_iter().collect()
+}
+
+#[test]
+fn every_refusal_is_met() {
+    assert_eq!(refusals("open"), [0, 2, 3, 4, 5, 6]);
+    assert_eq!(refusals("append"), [0, 2, 3, 6, 7, 8, 9, 10, 11]);
+    assert_eq!(refusals("close"), [0, 2, 3, 6, 10]);
+}

@@ -1,0 +1,100 @@
+// The three calls, each on as much of the memories as the view says, with its line.
+ghost use mathlib.Core.Path.{_≡_};
+ghost use Prim.Native.Nat.{_≤_};
+ghost use lib.ListN.{length};
+use crate::material::View;
+use crate::memory::within;
+use crate::record::byte;
+use crate::record::seal_length;
+use crate::record::size;
+use crate::record::word;
+use crate::report::line;
+
+// The most lengths that a record lends.
+const MAX_LENGTHS: usize = 9;
+
+// The most data that a record appends.
+const MAX_DATA: usize = 1024;
+
+pub fn open(view: View, record: &[u8], store: &[u8], logs: &[u8], seal: &[u8]) -> View {
+    let a = within(view.store, store);
+    let b = within(view.logs, logs);
+    let c = within(view.seal, seal);
+    let lengths = lengths_of(record);
+    let n = at_most(MAX_LENGTHS, byte(record, 1) as usize);
+    let sealed = sealer::open(
+        &store[..a],
+        &logs[..b],
+        &lengths[..n],
+        &seal[..c],
+        seal_length(record),
+    );
+    line(b"open", sealed, view, store, logs, seal)
+}
+
+pub fn append(
+    view: View,
+    record: &[u8],
+    store: &mut [u8],
+    logs: &mut [u8],
+    seal: &mut [u8],
+) -> View {
+    let a = within(view.store, store);
+    let b = within(view.logs, logs);
+    let c = within(view.seal, seal);
+    let data = data_of(byte(record, 8));
+    let n = at_most(MAX_DATA, size(record, 4));
+    let sealed = sealer::append(
+        view.state,
+        &mut store[..a],
+        &mut logs[..b],
+        &mut seal[..c],
+        byte(record, 1),
+        &data[..n],
+    );
+    line(b"append", sealed, view, store, logs, seal)
+}
+
+pub fn close(view: View, store: &[u8], logs: &[u8], seal: &mut [u8]) -> View {
+    let a = within(view.store, store);
+    let b = within(view.logs, logs);
+    let c = within(view.seal, seal);
+    let sealed = sealer::close(view.state, &store[..a], &logs[..b], &mut seal[..c]);
+    line(b"close", sealed, view, store, logs, seal)
+}
+
+// The log lengths that a record has.
+fn lengths_of(record: &[u8]) -> [u32; MAX_LENGTHS]
+    ensures { λ r. ⌜ 9 ≡ length r ⌝ }
+{
+    [
+        word(record, 16),
+        word(record, 20),
+        word(record, 24),
+        word(record, 28),
+        word(record, 32),
+        word(record, 36),
+        word(record, 40),
+        word(record, 44),
+        word(record, 48),
+    ]
+}
+
+// Bytes that count up from the first.
+fn data_of(first: u8) -> [u8; MAX_DATA]
+    ensures { λ r. ⌜ 1024 ≡ length r ⌝ }
+{
+    let mut bytes = [0; MAX_DATA];
+    let mut next = first;
+    for i in 0..MAX_DATA {
+        bytes[i] = next;
+        next = std::num::wrapping_add_u8(next, 1);
+    }
+    bytes
+}
+
+fn at_most(most: usize, n: usize) -> usize
+    ensures { λ r. ⌜ r ≤ most ⌝ }
+{
+    if n < most { n } else { most }
+}

@@ -1,0 +1,141 @@
+// What the calls work on: how it is made, and how a record changes one part of it.
+use crate::memory::fill;
+use crate::memory::within;
+use crate::record::byte;
+use crate::record::seal_length;
+use crate::record::size;
+use crate::record::word;
+use scheme::ChunkNumber;
+use scheme::RatchetOffset;
+use scheme::State;
+
+// The state, and how much of each memory is lent to a call.
+pub struct View {
+    pub state: State,
+    pub store: usize,
+    pub logs: usize,
+    pub seal: usize,
+}
+
+const HEADER_LENGTH: usize = 18;
+
+const LOG_FILL: u8 = 0xee;
+
+const SEAL_FILL: u8 = 0xdd;
+
+// A state of zeros, and no memory.
+pub fn nothing() -> View {
+    View {
+        state: zeros(),
+        store: 0,
+        logs: 0,
+        seal: 0,
+    }
+}
+
+// A state of zeros, and the memories of the record's lengths, filled.
+pub fn new(record: &[u8], store: &mut [u8], logs: &mut [u8], seal: &mut [u8]) -> View {
+    let a = within(size(record, 12), store);
+    let b = within(size(record, 16), logs);
+    let c = within(size(record, 20), seal);
+    write_store(&mut store[..a], record);
+    fill(&mut logs[..b], LOG_FILL);
+    fill(&mut seal[..c], SEAL_FILL);
+    View {
+        state: zeros(),
+        store: a,
+        logs: b,
+        seal: c,
+    }
+}
+
+// One field of the state set.
+pub fn set_state(view: View, record: &[u8]) -> View {
+    let state = changed(view.state, record);
+    View {
+        state,
+        store: view.store,
+        logs: view.logs,
+        seal: view.seal,
+    }
+}
+
+// One byte of the store set, where the store has it.
+pub fn set_store(view: View, record: &[u8], store: &mut [u8]) -> View {
+    let n = within(view.store, store);
+    let at = size(record, 4);
+    if at < n {
+        store[at] = byte(record, 1);
+    }
+    view
+}
+
+fn zeros() -> State {
+    State {
+        chunk: ChunkNumber(0),
+        offset: RatchetOffset(0),
+        key: [0; 32],
+        lengths: [0; 8],
+        seal_length: 0,
+    }
+}
+
+// The state with the record's value in the field that byte 1 names.
+fn changed(mut state: State, record: &[u8]) -> State {
+    let field = byte(record, 1);
+    match field {
+        0 => {
+            let chunk = ChunkNumber(word(record, 4));
+            state.chunk = chunk;
+        }
+        1 => {
+            let offset = RatchetOffset(word(record, 4));
+            state.offset = offset;
+        }
+        2 => state.seal_length = seal_length(record),
+        3 => {
+            let old = state.lengths;
+            let lengths = with_length(old, record);
+            state.lengths = lengths;
+        }
+        4 => {
+            let key = [byte(record, 2); 32];
+            state.key = key;
+        }
+        _ => {}
+    }
+    state
+}
+
+// The log lengths with the one that byte 2 names set.
+fn with_length(mut lengths: [u32; 8], record: &[u8]) -> [u32; 8] {
+    let i = (byte(record, 2) % 8) as usize;
+    lengths[i] = word(record, 4);
+    lengths
+}
+
+fn write_store(store: &mut [u8], record: &[u8]) {
+    let mut i = 0;
+    while i < store.len() {
+        store[i] = store_byte(record, i);
+        i += 1;
+    }
+}
+
+// The byte at a place of a store: the kind, the id 1 to 8, the phases and the two counts, which the record has six places
+// earlier; then key bytes, none of them 0.
+fn store_byte(record: &[u8], at: usize) -> u8 {
+    if HEADER_LENGTH <= at {
+        return ((at % 255 * 7 + 3) % 255 + 1) as u8;
+    }
+    if at == 0 {
+        return byte(record, 1);
+    }
+    if at < 9 {
+        return at as u8;
+    }
+    if at == 9 {
+        return byte(record, 2);
+    }
+    byte(record, at - 6)
+}
