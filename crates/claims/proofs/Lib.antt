@@ -1,0 +1,9 @@
+-- The theorems, and the laws that they rest on.
+pub mod Good
+pub mod Steps
+pub mod Invariant
+pub mod Kept
+pub mod Compromise
+pub mod Honest
+pub mod Claim
+pub mod Rows

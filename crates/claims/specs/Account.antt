@@ -1,0 +1,200 @@
+-- Calls, the account of a history, and what a history is ("What a controller wrote"). Nothing here cites what the sealer does.
+use mathlib.Core.Path.{_≡_}
+use mathlib.Core.Bool.{Bool, true, false, not, _||_, cond}
+use mathlib.Core.List.{List, [], _∷_, _++_}
+use Prim.Native.Nat.{ℕ, zero, suc, _+_, _-_, _*_}
+use lib.Dec.{eqb, ltb}
+use lib.ListN.{length, getD, set, replicate}
+use Rattle.scheme.specs.Bytes.{joined}
+use Rattle.scheme.specs.Rules.{Rule, _⇒_, refusalBy, allTrue, outside, someFrom, row}
+use Rattle.scheme.specs.Store.{dataLimit, logCapacity, phases, chunkCount, ratchet, badStore, badLogs, badLengths}
+use Rattle.scheme.specs.Items.{entryHead, fillerHead, entryLength, itemMessage, itemNumber}
+use Rattle.scheme.specs.Keys.{keyAt, tagOf}
+use Rattle.scheme.specs.Audit.{chunkField}
+use Rattle.scheme.specs.declared.ChunkNumber.{ChunkNumber}
+use Rattle.scheme.specs.declared.RatchetOffset.{RatchetOffset}
+
+-- a call: an open with the log lengths and the seal length given, an append with phase and data, a close
+pub data Call : Type 0 where
+  Open : List ℕ → ℕ → Call
+  Append : ℕ → List ℕ → Call
+  Close : Call
+
+-- what a call answers: the number of its refusal, 0 with none, and its count, 0 where it is refused or has none
+pub record Answer : Type 0 where
+  pub refusal : ℕ
+  pub count : ℕ
+
+-- what the account is fed besides the calls: the unused store, and both memories as at the start
+pub record Fed : Type 0 where
+  pub store : List ℕ
+  pub logs : List ℕ
+  pub seal : List ℕ
+
+-- what the account holds: a chunk number, an offset, the items, a log for each phase, and whether the state was lost to a refused
+-- open made with items standing
+pub record Account : Type 0 where
+  pub c : ChunkNumber
+  pub r : RatchetOffset
+  pub items : List (List ℕ)
+  pub logs : List (List ℕ)
+  pub lost : Bool
+
+-- 0 and empty at first
+unfoldable pub started : Fed → Account
+started f =
+    record { c = record { 0 = 0 }; r = record { 0 = 0 }; items = []; logs = replicate (phases (f .store)) []; lost = false }
+
+-- the log of phase p; the lengths reached are those of the logs and of all items together
+abbrev pub logOf : Account → ℕ → List ℕ
+logOf a p = getD (a .logs) (p - 1) []
+
+unfoldable pub lengthsOf : List (List ℕ) → List ℕ
+lengthsOf [] = []
+lengthsOf (l ∷ ls) = length l ∷ lengthsOf ls
+
+abbrev pub lengthsReached : Account → List ℕ
+lengthsReached a = lengthsOf (a .logs)
+
+abbrev pub sealReached : Account → ℕ
+sealReached a = length (joined (a .items))
+
+-- an item carries the number of a chunk; the chunks so carried are those that the controller has burned
+unfoldable pub carriedBy : List (List ℕ) → ℕ → Bool
+carriedBy [] x = false
+carriedBy (it ∷ items) x = let rest = carriedBy items x in cond (eqb (chunkField it .0) x) true rest
+
+abbrev pub carried : Account → ℕ → Bool
+carried a x = carriedBy (a .items) x
+
+-- stepping on: r grows by 1; where it reaches the ratchet, it becomes 0 and c grows by 1
+unfoldable pub stepOn : Fed → Account → Account
+stepOn f a =
+    let r = suc (a .r .0) in
+    cond (eqb r (ratchet (f .store)))
+    (record { c = record { 0 = suc (a .c .0) }; r = record { 0 = 0 }; items = a .items; logs = a .logs; lost = a .lost })
+    (record { c = a .c; r = record { 0 = r }; items = a .items; logs = a .logs; lost = a .lost })
+
+-- the key that is due, from the unused store
+abbrev pub dueKey : Fed → Account → List ℕ
+dueKey f a = keyAt (f .store) (a .c .0) (a .r .0)
+
+-- the items that append and close add
+unfoldable pub entryDue : Fed → Account → ℕ → List ℕ → List ℕ
+entryDue f a phase bytes =
+    let head = entryHead phase (length (logOf a phase)) (length bytes) (a .c) (a .r) in
+    head ++ tagOf (f .store) (dueKey f a) (itemMessage (f .store) head bytes)
+
+unfoldable pub fillerDue : Fed → Account → List ℕ
+fillerDue f a =
+    let head = fillerHead (a .c) (a .r) in
+    head ++ tagOf (f .store) (dueKey f a) (itemMessage (f .store) head [])
+
+abbrev pub withItem : Account → List ℕ → Account
+withItem a it = record { c = a .c; r = a .r; items = a .items ++ (it ∷ []); logs = a .logs; lost = a .lost }
+
+abbrev pub withData : Account → ℕ → List ℕ → Account
+withData a p bytes =
+    record { c = a .c; r = a .r; items = a .items; logs = set (a .logs) (p - 1) (logOf a p ++ bytes); lost = a .lost }
+
+abbrev pub withLost : Account → Bool → Account
+withLost a lost = record { c = a .c; r = a .r; items = a .items; logs = a .logs; lost = lost }
+
+-- append: the entry item is added, its data go behind the log, and the account steps on
+unfoldable pub accountAppend : Fed → Account → ℕ → List ℕ → Account
+accountAppend f a phase bytes = stepOn f (withData (withItem a (entryDue f a phase bytes)) phase bytes)
+
+-- close: while r is above 0, a filler is added and the account steps on; at most as often as the ratchet says
+unfoldable pub accountClose : ℕ → Fed → Account → Account
+accountClose zero f a = a
+accountClose (suc n) f a =
+    let more = accountClose n f (stepOn f (withItem a (fillerDue f a))) in
+    cond (ltb 0 (a .r .0)) more a
+
+abbrev pub afterClose : Fed → Account → Account
+afterClose f a = accountClose (ratchet (f .store)) f a
+
+-- the refusals, by the numbers that each call checks, in order, read on what the account holds and is fed
+unfoldable pub accountOpenRules : Fed → Account → List ℕ → ℕ → List Rule
+accountOpenRules f a lengths sealLength =
+    let count = chunkCount (f .store) in
+    let front = row (carried a) 0 count in
+    (badStore (f .store) ⇒ 2) ∷
+    (badLogs (f .store) (f .logs) ⇒ 3) ∷
+    (someFrom (carried a) front (count - front) ⇒ 4) ∷
+    (badLengths (f .store) lengths ⇒ 5) ∷
+    (ltb (length (f .seal)) sealLength ⇒ 6) ∷
+    []
+
+unfoldable pub accountAppendRules : Fed → Account → ℕ → List ℕ → List Rule
+accountAppendRules f a phase bytes =
+    (badStore (f .store) ⇒ 2) ∷
+    (badLogs (f .store) (f .logs) ⇒ 3) ∷
+    (a .lost ⇒ 6) ∷
+    (outside 1 (phases (f .store)) phase ⇒ 7) ∷
+    (outside 1 (dataLimit (f .store)) (length bytes) ⇒ 8) ∷
+    (ltb (logCapacity (f .store) - length (logOf a phase)) (length bytes) ⇒ 9) ∷
+    (ltb (length (f .seal) - sealReached a) (entryLength (f .store)) ⇒ 10) ∷
+    (allTrue (eqb (a .r .0) 0 ∷ eqb (a .c .0) (chunkCount (f .store)) ∷ []) ⇒ 11) ∷
+    []
+
+unfoldable pub accountCloseRules : Fed → Account → List Rule
+accountCloseRules f a =
+    (badStore (f .store) ⇒ 2) ∷
+    (badLogs (f .store) (f .logs) ⇒ 3) ∷
+    (a .lost ⇒ 6) ∷
+    (ltb (length (f .seal) - sealReached a) (sealReached (afterClose f a) - sealReached a) ⇒ 10) ∷
+    []
+
+unfoldable pub accountRefusal : Fed → Account → Call → ℕ
+accountRefusal f a (Open lengths sealLength) = refusalBy (accountOpenRules f a lengths sealLength)
+accountRefusal f a (Append phase bytes) = refusalBy (accountAppendRules f a phase bytes)
+accountRefusal f a Close = refusalBy (accountCloseRules f a)
+
+-- the account after a call that is not refused, and its count
+unfoldable pub accountDone : Fed → Account → Call → Account
+accountDone f a (Open lengths sealLength) = withLost a false
+accountDone f a (Append phase bytes) = accountAppend f a phase bytes
+accountDone f a Close = afterClose f a
+
+unfoldable pub accountCount : Fed → Account → Call → ℕ
+accountCount f a (Open lengths sealLength) = 0
+accountCount f a (Append phase bytes) = itemNumber (ratchet (f .store)) (a .c) (a .r)
+accountCount f a Close = length (afterClose f a .items) - length (a .items)
+
+-- the account after a refused call: nothing changes, but for a refused open with items standing, which loses the state
+unfoldable pub accountRefused : Account → Call → Account
+accountRefused a (Open lengths sealLength) = withLost a (a .lost || ltb 0 (length (a .items)))
+accountRefused a (Append phase bytes) = a
+accountRefused a Close = a
+
+unfoldable pub accountStep : Fed → Account → Call → Account
+accountStep f a call =
+    let done = accountDone f a call in
+    cond (eqb (accountRefusal f a call) 0) done (accountRefused a call)
+
+unfoldable pub accountAnswer : Fed → Account → Call → Answer
+accountAnswer f a call =
+    let refusal = accountRefusal f a call in
+    let count = accountCount f a call in
+    record { refusal = refusal; count = cond (eqb refusal 0) count 0 }
+
+-- the account of a list of calls, and its answers
+unfoldable pub accountFrom : Fed → Account → List Call → Account
+accountFrom f a [] = a
+accountFrom f a (call ∷ calls) = accountFrom f (accountStep f a call) calls
+
+unfoldable pub answersFrom : Fed → Account → List Call → List Answer
+answersFrom f a [] = []
+answersFrom f a (call ∷ calls) = accountAnswer f a call ∷ answersFrom f (accountStep f a call) calls
+
+-- what a history allows: an open that is not refused comes only when no chunk is half used, and is given the lengths reached
+unfoldable pub Allowed : Fed → Account → Call → Type 0
+Allowed f a (Open lengths sealLength) =
+    accountRefusal f a (Open lengths sealLength) ≡ 0 → (a .r .0 ≡ 0) × (lengths ≡ lengthsReached a) × (sealLength ≡ sealReached a)
+Allowed f a (Append phase bytes) = Unit {0}
+Allowed f a Close = Unit {0}
+
+unfoldable pub HistoryFrom : Fed → Account → List Call → Type 0
+HistoryFrom f a [] = Unit {0}
+HistoryFrom f a (call ∷ calls) = Allowed f a call × HistoryFrom f (accountStep f a call) calls

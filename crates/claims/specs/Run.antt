@@ -1,0 +1,38 @@
+-- What the calls do: each step is the definition that the contract of open, append or close equates its function with.
+use mathlib.Core.List.{List, [], _∷_}
+use Prim.Native.Nat.{ℕ}
+use Rattle.scheme.specs.State.{zeroState}
+use Rattle.scheme.specs.Sealer.{Effect, opens, appends, closes}
+use Rattle.scheme.specs.declared.State.{State}
+use Rattle.claims.specs.Account.{Call, Open, Append, Close, Answer, Fed}
+
+-- state, store and memories between two calls
+pub record Device : Type 0 where
+  pub state : State
+  pub store : List ℕ
+  pub logs : List ℕ
+  pub seal : List ℕ
+
+-- at the start the store is unused, and the sealing state is all zeros
+abbrev pub deviceStarted : Fed → Device
+deviceStarted f = record { state = zeroState; store = f .store; logs = f .logs; seal = f .seal }
+
+-- each call is handed store, memories and state as the last one left or gave them
+unfoldable pub effectOf : Device → Call → Effect
+effectOf d (Open lengths sealLength) = opens (d .store) (d .logs) lengths (d .seal) sealLength
+effectOf d (Append phase bytes) = appends (d .state) (d .store) (d .logs) (d .seal) phase bytes
+effectOf d Close = closes (d .state) (d .store) (d .logs) (d .seal)
+
+abbrev pub deviceAfter : Effect → Device
+deviceAfter e = record { state = e .state; store = e .store; logs = e .logs; seal = e .seal }
+
+abbrev pub answerOf : Effect → Answer
+answerOf e = record { refusal = e .refusal; count = e .count }
+
+unfoldable pub runFrom : Device → List Call → Device
+runFrom d [] = d
+runFrom d (call ∷ calls) = runFrom (deviceAfter (effectOf d call)) calls
+
+unfoldable pub runAnswers : Device → List Call → List Answer
+runAnswers d [] = []
+runAnswers d (call ∷ calls) = answerOf (effectOf d call) ∷ runAnswers (deviceAfter (effectOf d call)) calls
