@@ -2,4 +2,5 @@
 pub mod header;
 pub mod items;
 pub mod memory;
+pub mod reading;
 pub mod words;
