@@ -1,9 +1,7 @@
 -- The laws that the functions' proofs cite, here and in the crates above.
 pub mod Allowed
-pub mod Conditions
 pub mod Counts
 pub mod Fillers
 pub mod Fitting
 pub mod Opened
-pub mod Sound
 pub mod Answered
