@@ -1,17 +1,19 @@
 -- Laws of a list that is mapped from its front on, and of the padded key.
-use mathlib.Core.Path.{_≡_, sym, _∙_, ap, subst}
+use mathlib.Core.Path.{_≡_, refl, sym, _∙_, ap, subst}
+use mathlib.Core.Bool.{Bool, true, false}
 use mathlib.Core.List.{List, [], _∷_, _++_, map, map-append, append-nil}
 use Prim.Native.Nat.{ℕ, zero, suc, _+_, _-_, _<_, _≤_}
 use native.Mathlib.Nat.{zero-add}
 use native.Mathlib.Omega.{arith}
-use borrow.Author.Tests.{le-leb, lt-leb}
+use borrow.Author.Tests.{le-leb, lt-leb, leb-true}
+use lib.Dec.{leb, lit≤}
 use lib.Bits.{bitXor}
-use lib.ListN.{length, getD, take, drop, set, replicate, length-map, length-replicate, replicate-append-replicate}
+use lib.ListN.{length, getD, take, drop, set, replicate, length-append, length-map, length-replicate, replicate-append-replicate}
 use lib.Seq.{drop-cons, take-suc, length-take-le, append-snoc, set-at, getD-at, take-all, drop-length, drop-at}
 use Rattle.sha256.specs.Fips.{sha256}
 use Rattle.sha256.specs.State.{Stands}
 use Rattle.sha256.specs.declared.state.Sha256.{Sha256}
-use Rattle.hmac.specs.Rfc2104.{shortened, padded, masked}
+use Rattle.hmac.specs.Rfc2104.{choose, shortened, padded, masked}
 
 -- the first i entries mapped, the others as they were
 abbrev pub mapped : (ℕ → ℕ) → List ℕ → ℕ → List ℕ
@@ -56,6 +58,23 @@ key-taken key h = rw (le-leb (length key) 64 h)
 pub key-hashed : (key : List ℕ) → 64 < length key → shortened key ≡ sha256 key
 unfolding shortened
 key-hashed key h = rw (lt-leb (length key) 64 h)
+
+-- a masked key is one block
+chosen-fits : (b : Bool) (key : List ℕ) → leb (length key) 64 ≡ b → length (choose b key (sha256 key)) ≤ 64
+unfolding sha256
+chosen-fits true key e = leb-true _ _ e
+chosen-fits false key e = lit≤ tt
+
+shortened-fits : (key : List ℕ) → length (shortened key) ≤ 64
+unfolding shortened
+shortened-fits key = chosen-fits (leb (length key) 64) key refl
+
+pub masked-length : (p : ℕ) (key : List ℕ) → length (masked p key) ≡ 64
+unfolding masked padded
+masked-length p key =
+    let zeros : List ℕ = replicate (64 - length (shortened key)) 0 in
+    length-map (shortened key ++ zeros) (λ k. bitXor k p) ∙
+    omega (arith, shortened-fits key, length-append (shortened key) zeros, length-replicate {A = ℕ} (64 - length (shortened key)) 0)
 
 -- a state that has absorbed the masked block stands for it
 pub absorbed : {s : Sha256} {b : List ℕ} (p : ℕ) (key block : List ℕ) → block ≡ padded key → b ≡ map (λ k. bitXor k p) block

@@ -29,8 +29,8 @@ impl Hmac {
         let inner = masked(block, IPAD);
         let outer = masked(block, OPAD);
         Self {
-            inner: Sha256::new().update(&inner),
-            outer: Sha256::new().update(&outer),
+            inner: Sha256::of_block(inner),
+            outer: Sha256::of_block(outer),
         }
     }
 
@@ -53,7 +53,7 @@ impl Hmac {
         let inner = self.inner;
         let outer = self.outer;
         let digest = inner.finish();
-        outer.update(&digest).finish()
+        outer.finish_with(digest)
     }
 }
 

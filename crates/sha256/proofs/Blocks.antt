@@ -256,3 +256,14 @@ module _ {s : Sha256} (m : List ℕ) (h : Stands s m) where
       ap₂ (λ (b : List ℕ) (i : ℕ). set b i 128 ++ put (replicate 64 0) 56 (bigEndian 8 (8 * s .length))) stands-block stands-place
       ∙ two-blocks (rest m) (8 * s .length) (omega (arith, length-rest m))
       ∙ ap₂ (λ (i : ℕ) (b : List ℕ). rest m ++ (128 ∷ replicate i 0 ++ b)) fill stands-bits
+
+-- 32 bytes behind a message of one block: the block that they and the padding fill
+pub sha256-with : {s : Sha256} (m q : List ℕ) → Stands s m → length m ≡ 64 → length q ≡ 32
+    → sha256 (m ++ q) ≡ digest (over (s .words) (set (put (put (replicate 64 0) 0 q) 56 (bigEndian 8 (8 * 96))) 32 128))
+sha256-with {s} m q h one half =
+    let laid = put-filled [] q (omega (arith, half)) in
+    let held : Sha256 = record { words = s .words; block = put (replicate 64 0) 0 q; length = 96 } in
+    let stands : Stands held (m ++ q) =
+    held-whole m q (omega (arith, one))
+    (held-short q (omega (arith, half)) (h .words) laid (omega (arith, length-append m q, one, half))) in
+    sha256-ending (m ++ q) ∙ sym (ap digest (ap₂ over (stands .words) (stands-one (m ++ q) stands (lit< tt))))

@@ -111,15 +111,11 @@ fn compress(s: Words, b: &[u8], k: &[u32; 64]) -> Words
     ensures { λ r. ⌜ r ≡ Fips.compress s (now (b .entry)) ⌝ }
 {
     let w = load(b);
-    let mut v = Working {
+    let begun = Working {
         s: first(s, k, w),
         w,
     };
-    let mut t = 16;
-    while t < 64 {
-        v = sixteen(v, k, t);
-        t += 16;
-    }
+    let v = others(begun, k);
     added(v.s, s)
 }
 
@@ -186,29 +182,45 @@ fn first(s: Words, k: &[u32; 64], w: [u32; 16]) -> Words
     v
 }
 
-// 16 more rounds, from round t on, each on the next word of the schedule.
-fn sixteen(v: Working, k: &[u32; 64], t: usize) -> Working
-    requires { ⌜ t + 16 ≤ 64 ⌝ }
-    ensures { λ r. ⌜ ((b : List ℕ) (s : Words) (n : ℕ) → 16 + n ≡ t → Reached (now (k .entry)) b s n v → Reached (now (k .entry)) b s (n + 16) r) ⌝ }
+// The other 48 rounds. Written out, so that each constant stands in its instruction and the table is never copied.
+fn others(v: Working, k: &[u32; 64]) -> Working
+    ensures { λ r. ⌜ ((b : List ℕ) (s : Words) → Reached (now (k .entry)) b s 0 v → Reached (now (k .entry)) b s 48 r) ⌝ }
 {
     let mut u = v;
-    u = turn(u, k, t);
-    u = turn(u, k, t + 1);
-    u = turn(u, k, t + 2);
-    u = turn(u, k, t + 3);
-    u = turn(u, k, t + 4);
-    u = turn(u, k, t + 5);
-    u = turn(u, k, t + 6);
-    u = turn(u, k, t + 7);
-    u = turn(u, k, t + 8);
-    u = turn(u, k, t + 9);
-    u = turn(u, k, t + 10);
-    u = turn(u, k, t + 11);
-    u = turn(u, k, t + 12);
-    u = turn(u, k, t + 13);
-    u = turn(u, k, t + 14);
-    u = turn(u, k, t + 15);
+    u = two(u, k, 16);
+    u = two(u, k, 18);
+    u = two(u, k, 20);
+    u = two(u, k, 22);
+    u = two(u, k, 24);
+    u = two(u, k, 26);
+    u = two(u, k, 28);
+    u = two(u, k, 30);
+    u = two(u, k, 32);
+    u = two(u, k, 34);
+    u = two(u, k, 36);
+    u = two(u, k, 38);
+    u = two(u, k, 40);
+    u = two(u, k, 42);
+    u = two(u, k, 44);
+    u = two(u, k, 46);
+    u = two(u, k, 48);
+    u = two(u, k, 50);
+    u = two(u, k, 52);
+    u = two(u, k, 54);
+    u = two(u, k, 56);
+    u = two(u, k, 58);
+    u = two(u, k, 60);
+    u = two(u, k, 62);
     u
+}
+
+// Two rounds from round t on, each on the next word of the schedule.
+fn two(v: Working, k: &[u32; 64], t: usize) -> Working
+    requires { ⌜ t + 2 ≤ 64 ⌝ }
+    ensures { λ r. ⌜ ((b : List ℕ) (s : Words) (n : ℕ) → 16 + n ≡ t → Reached (now (k .entry)) b s n v → Reached (now (k .entry)) b s (2 + n) r) ⌝ }
+{
+    let u = turn(v, k, t);
+    turn(u, k, t + 1)
 }
 
 fn turn(v: Working, k: &[u32; 64], t: usize) -> Working

@@ -53,6 +53,15 @@ impl Sha256 {
         }
     }
 
+    // The state that stands for a message of one block.
+    pub fn of_block(block: [u8; 64]) -> Self
+        ensures { λ r. ⌜ Stands r block ⌝ }
+    {
+        let start = Self::new();
+        let words = start.words;
+        whole(words, &block, 64)
+    }
+
     // From the state that stands for m, the one that stands for m followed by the part.
     pub fn update(self, part: &[u8]) -> Self
         ensures { λ r. ⌜ ((m : List ℕ) → Stands self m → Stands r (m ++ now (part .entry))) ⌝ }
@@ -93,6 +102,19 @@ impl Sha256 {
         last[n] = 128;
         let end = put([0; 64], 56, &bits);
         digest(blocks(blocks(words, &last), &end))
+    }
+
+    // From the state that stands for a message m of one block, the digest of m followed by the part: what HMAC ends with, in one
+    // block that is laid out here.
+    pub fn finish_with(self, part: [u8; 32]) -> [u8; 32]
+        ensures { λ r. ⌜ ((m : List ℕ) → Stands self m → length m ≡ 64 → r ≡ Fips.sha256 (m ++ part)) ⌝ }
+    {
+        let words = self.words;
+        let bits = length_bytes(96);
+        let block = put([0; 64], 0, &part);
+        let mut end = put(block, 56, &bits);
+        end[32] = 128;
+        digest(blocks(words, &end))
     }
 }
 
@@ -142,38 +164,38 @@ fn length_bytes(length: u64) -> [u8; 8]
 fn digest(s: Words) -> [u8; 32]
     ensures { λ r. ⌜ r ≡ Fips.digest s ⌝ }
 {
+    let d = put_word([0; 32], 0, s.a);
+    let d = put_word(d, 4, s.b);
+    let d = put_word(d, 8, s.c);
+    let d = put_word(d, 12, s.d);
+    let d = put_word(d, 16, s.e);
+    let d = put_word(d, 20, s.f);
+    let d = put_word(d, 24, s.g);
+    put_word(d, 28, s.h)
+}
+
+// The bytes with a word's written at a place: copied from an array of four, they become one store.
+fn put_word(d: [u8; 32], at: usize, x: u32) -> [u8; 32]
+    requires { ⌜ at + 4 ≤ 32 ⌝ }
+    ensures { λ r. ⌜ r ≡ take at d ++ Fips.bigEndian 4 x ++ drop (at + 4) d ⌝ }
+{
+    let word = word_bytes(x);
+    let mut b = d;
+    let mut i = 0;
+    while i < 4 {
+        b[at + i] = word[i];
+        i += 1;
+    }
+    b
+}
+
+fn word_bytes(x: u32) -> [u8; 4]
+    ensures { λ r. ⌜ r ≡ Fips.bigEndian 4 x ⌝ }
+{
     [
-        (s.a / 256 / 256 / 256 % 256) as u8,
-        (s.a / 256 / 256 % 256) as u8,
-        (s.a / 256 % 256) as u8,
-        (s.a % 256) as u8,
-        (s.b / 256 / 256 / 256 % 256) as u8,
-        (s.b / 256 / 256 % 256) as u8,
-        (s.b / 256 % 256) as u8,
-        (s.b % 256) as u8,
-        (s.c / 256 / 256 / 256 % 256) as u8,
-        (s.c / 256 / 256 % 256) as u8,
-        (s.c / 256 % 256) as u8,
-        (s.c % 256) as u8,
-        (s.d / 256 / 256 / 256 % 256) as u8,
-        (s.d / 256 / 256 % 256) as u8,
-        (s.d / 256 % 256) as u8,
-        (s.d % 256) as u8,
-        (s.e / 256 / 256 / 256 % 256) as u8,
-        (s.e / 256 / 256 % 256) as u8,
-        (s.e / 256 % 256) as u8,
-        (s.e % 256) as u8,
-        (s.f / 256 / 256 / 256 % 256) as u8,
-        (s.f / 256 / 256 % 256) as u8,
-        (s.f / 256 % 256) as u8,
-        (s.f % 256) as u8,
-        (s.g / 256 / 256 / 256 % 256) as u8,
-        (s.g / 256 / 256 % 256) as u8,
-        (s.g / 256 % 256) as u8,
-        (s.g % 256) as u8,
-        (s.h / 256 / 256 / 256 % 256) as u8,
-        (s.h / 256 / 256 % 256) as u8,
-        (s.h / 256 % 256) as u8,
-        (s.h % 256) as u8,
+        (x / 256 / 256 / 256 % 256) as u8,
+        (x / 256 / 256 % 256) as u8,
+        (x / 256 % 256) as u8,
+        (x % 256) as u8,
     ]
 }
