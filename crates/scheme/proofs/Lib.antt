@@ -1,6 +1,7 @@
 -- The laws of the scheme's definitions, cited by the proofs of every crate above.
 pub mod Tests
 pub mod Rules
+pub mod Answers
 pub mod Bytes
 pub mod Splice
 pub mod Numbers
