@@ -12,9 +12,10 @@ pub enum Reading {
     Bad,
 }
 
-const HEADER_LENGTH: usize = 18;
+// Bytes of a key store's header and of a chunk.
+pub const HEADER_LENGTH: usize = 18;
 
-const CHUNK_LENGTH: usize = 32;
+pub const CHUNK_LENGTH: usize = 32;
 
 const STORE_KIND: u8 = 1;
 

@@ -1,6 +1,7 @@
-// Reading a key store's header, writing the heads of items and messages, and memory byte by byte.
+// Reading a key store's header and checking the store, reading and writing items and messages, and memory byte by byte.
 pub mod header;
 pub mod items;
 pub mod memory;
 pub mod reading;
+pub mod store;
 pub mod words;

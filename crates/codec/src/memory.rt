@@ -50,12 +50,12 @@ pub fn same(a: &[u8], b: &[u8]) -> bool
     if a.len() != b.len() {
         return false;
     }
-    let mut i = 0;
-    while i < a.len() {
-        if a[i] != b[i] {
+    let mut k = 0;
+    while k < a.len() {
+        if a[k] != b[k] {
             return false;
         }
-        i += 1;
+        k += 1;
     }
     true
 }

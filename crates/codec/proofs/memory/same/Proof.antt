@@ -1,5 +1,5 @@
 -- `codec::memory::same` meets its contract. Lists of different lengths are not the same; of the same length, the loop's invariant
--- is: they are the same exactly if they are from i on.
+-- is: they are the same exactly if they are from k on.
 use mathlib.Core.Path.{_≡_, refl, sym, _∙_}
 use Prim.Native.Nat.{_≤_, _-_}
 use native.Mathlib.Omega.{arith}
@@ -11,10 +11,10 @@ use Rattle.codec.proofs.memory.same.Statement.{statement}
 use Rattle.codec.proofs.memory.same.Tie as tie
 
 abbrev Inv-loop : tie.InvT-loop
-Inv-loop a b i₀ i = (i ≤ length a) × (sameBytes a b ≡ sameBytes (drop i a) (drop i b))
+Inv-loop a b k₀ k = (k ≤ length a) × (sameBytes a b ≡ sameBytes (drop k a) (drop k b))
 
 abbrev μ-loop : tie.MeasureT-loop
-μ-loop a b i₀ i = length a - i
+μ-loop a b k₀ k = length a - k
 
 returns : tie.Need-returns Inv-loop μ-loop
 returns c = sym (lengths-differ _ _ (c .if1 .taken))
@@ -31,10 +31,10 @@ shared-slice-read-if2-2 c = search needs
 returns-2 : tie.Need-returns-2 Inv-loop μ-loop
 returns-2 c =
     let l = c .before .before .before .before .loop in
-    sym (l .inv .1 ∙ not-same _ _ (l .i) (omega arith) (omega arith) (c .if2 .taken))
+    sym (l .inv .1 ∙ not-same _ _ (l .k) (omega arith) (omega arith) (c .if2 .taken))
 
-add-i : tie.Need-add-i Inv-loop μ-loop
-add-i c = search needs
+add-k : tie.Need-add-k Inv-loop μ-loop
+add-k c = search needs
 
 loop-less : tie.Need-loop-less Inv-loop μ-loop
 loop-less c = search needs
@@ -42,12 +42,12 @@ loop-less c = search needs
 loop-again : tie.Need-loop-again Inv-loop μ-loop
 loop-again c =
     let l = c .before .before .before .before .loop in
-    (search needs, l .inv .1 ∙ same-so-far _ _ (l .i) (omega arith) (omega arith) (c .if2 .left))
+    (search needs, l .inv .1 ∙ same-so-far _ _ (l .k) (omega arith) (omega arith) (c .if2 .left))
 
 returns-3 : tie.Need-returns-3 Inv-loop μ-loop
 returns-3 c =
     let l = c .before .loop in
-    sym (l .inv .1 ∙ none-different _ _ (l .i) (omega arith) (omega arith))
+    sym (l .inv .1 ∙ none-different _ _ (l .k) (omega arith) (omega arith))
 
 pub same-spec : {M : Type 1} → statement M
 same-spec =
@@ -60,7 +60,7 @@ same-spec =
     shared-slice-read-if2
     shared-slice-read-if2-2
     returns-2
-    add-i
+    add-k
     loop-less
     loop-again
     returns-3)
