@@ -1,4 +1,8 @@
-/* SHA-256 (FIPS 180-4) and HMAC-SHA-256 (RFC 2104, FIPS 198-1). */
+/*
+ * Sealed phase logs: SHA-256 (FIPS 180-4), HMAC-SHA-256 (RFC 2104, FIPS
+ * 198-1), the sealer that opens a key store, appends and closes, and the
+ * audit.
+ */
 
 #ifndef PAHYNDOI_H
 #define PAHYNDOI_H
@@ -10,10 +14,12 @@
 extern "C" {
 #endif
 
+/* ---- Hash and tag ---- */
+
 /* The longest message, and the longest key, in bytes. */
 #define PAHYNDOI_LENGTH_LIMIT 1048576
 
-/* What each call answers. */
+/* What the hash and the tag call answer. */
 #define PAHYNDOI_DONE 0
 #define PAHYNDOI_REFUSED 1
 
@@ -52,6 +58,182 @@ uint32_t pahyndoi_sha256(const uint8_t *message, size_t message_length,
 uint32_t pahyndoi_hmac_sha256(const uint8_t *key, size_t key_length,
                               const uint8_t *message, size_t message_length,
                               uint8_t tag[32]);
+
+/* ---- Sealer and audit ---- */
+
+/*
+ * Of the calls below: every pointer must be readable, and writable where it is
+ * not const, for the size behind it. None may be a null pointer, even with
+ * size 0. What a call writes must overlap nothing else that it is lent.
+ * pahyndoi_state and uint32_t pointers must be aligned as their types ask;
+ * byte pointers need no alignment. The calls keep no pointer and no state of
+ * their own, and may run in several threads, each on memory of its own.
+ */
+
+/*
+ * The sizes, in bytes. A key store is a header and its chunks. The log memory
+ * is a log for each phase, that of phase p from byte 8,192 * (p - 1) on. A
+ * seal file is entry and filler items, one behind the other.
+ */
+#define PAHYNDOI_HEADER_SIZE 18
+#define PAHYNDOI_CHUNK_SIZE 32
+#define PAHYNDOI_LOG_SIZE 8192
+#define PAHYNDOI_ENTRY_SIZE 50
+#define PAHYNDOI_FILLER_SIZE 41
+
+/*
+ * Open, append, close and the audit answer one 64-bit number: the refusal
+ * times 2 to the 32, plus a number that each call explains. Nothing is refused
+ * exactly if the refusal is 0; the answer is then just the number.
+ */
+#define PAHYNDOI_REFUSAL(answer) ((uint32_t)((uint64_t)(answer) >> 32))
+#define PAHYNDOI_NUMBER(answer) ((uint32_t)(uint64_t)(answer))
+
+/*
+ * The refusals, in checking order: of those that a call checks, the first that
+ * holds is the answer. P is the number of burned chunks (all bytes zero) at
+ * the front of the device store, N the ratchet, the keys of a chunk.
+ */
+enum pahyndoi_refusal {
+    /* A message or a key to be hashed is over 1,048,576 bytes. */
+    PAHYNDOI_TOO_LONG = 1,
+    /* The store is under 18 bytes, has another kind, has a count outside its
+       range or has the wrong length. */
+    PAHYNDOI_BAD_STORE = 2,
+    /* The log memory has the wrong length. */
+    PAHYNDOI_BAD_LOGS = 3,
+    /* A burned chunk stands after one that is not burned. */
+    PAHYNDOI_BURNED_AFTER_UNBURNED = 4,
+    /* The list of lengths has another number of entries than the phases, or
+       one over 8,192. */
+    PAHYNDOI_BAD_LENGTHS = 5,
+    /* The state does not fit, or at opening the seal length exceeds the seal
+       memory. */
+    PAHYNDOI_STATE_UNFIT = 6,
+    /* The phase is 0 or above the phases. */
+    PAHYNDOI_NO_SUCH_PHASE = 7,
+    /* The data length is 0 or above 512. */
+    PAHYNDOI_BAD_DATA_LENGTH = 8,
+    /* The phase's log has fewer bytes free than the data. */
+    PAHYNDOI_LOG_FULL = 9,
+    /* The seal memory has fewer bytes free than the items to be written. */
+    PAHYNDOI_SEAL_FULL = 10,
+    /* The offset is 0 and the chunk number equals the chunk count. */
+    PAHYNDOI_KEYS_SPENT = 11,
+    /* The auditor's store meets 2 or has a burned chunk. */
+    PAHYNDOI_BAD_AUDITOR_STORE = 12,
+    /* The two headers differ. */
+    PAHYNDOI_HEADERS_DIFFER = 13,
+    /* A chunk from number P on differs. */
+    PAHYNDOI_CHUNK_DIFFERS = 14,
+    /* The item's kind is neither entry nor filler, or the bytes end inside
+       it. */
+    PAHYNDOI_BAD_ITEM = 15,
+    /* The item's number is P times N or more. */
+    PAHYNDOI_ITEM_NOT_DUE = 16,
+    /* Its chunk number or ratchet offset is not that of its number. */
+    PAHYNDOI_WRONG_PLACE = 17,
+    /* Its phase or data length is out of range, or its area ends beyond that
+       phase's length. */
+    PAHYNDOI_BAD_AREA = 18,
+    /* Its area shares a byte with an earlier item of the phase. */
+    PAHYNDOI_AREA_SHARED = 19,
+    /* After taking it, over 16 items of that phase wait. */
+    PAHYNDOI_TOO_MANY_WAITING = 20,
+    /* Its tag is not the HMAC of its message under its key. */
+    PAHYNDOI_WRONG_TAG = 21,
+    /* After the last item there are fewer than P times N. */
+    PAHYNDOI_ITEMS_MISSING = 22,
+    /* A phase's covered bytes are fewer than its length. */
+    PAHYNDOI_NOT_COVERED = 23
+};
+
+/*
+ * The sealing state: the next chunk number, the next ratchet offset, the held
+ * key, a log length for each phase, and the bytes used of the seal memory. The
+ * caller keeps it and lends it to each call; set it to zeros before its first
+ * use, or have open fill it. Where the offset is above 0 it holds a secret key.
+ */
+struct pahyndoi_state {
+    uint32_t chunk;
+    uint32_t offset;
+    uint8_t key[32];
+    uint32_t lengths[8];
+    uint64_t seal_length;
+};
+typedef struct pahyndoi_state pahyndoi_state;
+
+/*
+ * Opens a key store: the state becomes the number of burned chunks at the
+ * front, offset 0, a key of zeros, the given lengths (zeros beyond the phases)
+ * and the given seal length, whatever it was before. The number answered is 0.
+ *
+ * Refused in this order: 2, 3, 4, 5, 6 (of 6, a seal length above seal_size
+ * alone). A refused open leaves a state of zeros.
+ *
+ * lengths_count counts entries, not bytes. Only the state is written.
+ */
+uint64_t pahyndoi_open(pahyndoi_state *state,
+                       const uint8_t *store, size_t store_size,
+                       const uint8_t *logs, size_t logs_size,
+                       const uint32_t *lengths, size_t lengths_count,
+                       const uint8_t *seal, size_t seal_size,
+                       uint64_t seal_length);
+
+/*
+ * Copies the data behind the log of the phase (1 is the first), writes one
+ * entry item of 50 bytes behind the seal file, sets the chunk in the store to
+ * zeros if the offset was 0, and brings the state up to date. The number
+ * answered is the item's, counted from 0.
+ *
+ * Refused in this order: 2, 3, 6, 7, 8, 9, 10, 11. A refused append alters
+ * neither state nor store, logs or seal, and answers the number 0.
+ *
+ * state, store, logs and seal are written; all bytes but the named ones stay as
+ * they are. The data are only read.
+ */
+uint64_t pahyndoi_append(pahyndoi_state *state,
+                         uint8_t *store, size_t store_size,
+                         uint8_t *logs, size_t logs_size,
+                         uint8_t *seal, size_t seal_size,
+                         uint8_t phase,
+                         const uint8_t *data, size_t data_size);
+
+/*
+ * Writes filler items of 41 bytes each behind the seal file until every key of
+ * the half-used chunk is used, and brings the state up to date: it then has
+ * offset 0 and a key of zeros. Where the offset is 0 it writes nothing and
+ * leaves the state as it is. The number answered is that of the fillers.
+ *
+ * Refused in this order: 2, 3, 6, 10. A refused close alters neither state nor
+ * seal, and answers the number 0.
+ *
+ * state and seal are written. Store and logs are only read.
+ */
+uint64_t pahyndoi_close(pahyndoi_state *state,
+                        const uint8_t *store, size_t store_size,
+                        const uint8_t *logs, size_t logs_size,
+                        uint8_t *seal, size_t seal_size);
+
+/*
+ * Audits a device's store, logs and seal file against the auditor's copy of
+ * the unused store. The number answered is the count of items where nothing is
+ * refused, the refused item's, counted from 0, with refusals 15 to 21, and 0
+ * with the others.
+ *
+ * Refused in this order: 2 to 5 and 12 to 14; then 15 to 21 for one item
+ * before the next; then 22 and 23.
+ *
+ * lengths is 4 bytes a phase, little-endian, and lengths_size counts bytes:
+ * another count than 4 times the phases gives refusal 5 in its place in the
+ * order. seal is the seal file alone, so seal_size is the state's seal_length
+ * and not the size of the seal memory. Everything is only read.
+ */
+uint64_t pahyndoi_audit(const uint8_t *device, size_t device_size,
+                        const uint8_t *auditor, size_t auditor_size,
+                        const uint8_t *logs, size_t logs_size,
+                        const uint8_t *lengths, size_t lengths_size,
+                        const uint8_t *seal, size_t seal_size);
 
 #ifdef __cplusplus
 }

@@ -1,1 +1,3 @@
 pub mod Hash
+pub mod Surface
+pub mod Audited

@@ -1,7 +1,19 @@
 // What other languages call: built as a static library, declared in include/pahyndoi.h.
 ghost use mathlib.Core.Path.{_≡_};
 ghost use Rattle.pahyndoi.specs.Hash.{Hashed, Tagged};
+ghost use Rattle.pahyndoi.specs.Surface.{Opened, Appended, Closed};
+ghost use Rattle.pahyndoi.specs.Audited.{Audited};
 ghost use Rattle.sha256.specs.Call.{refusalOf};
+
+mod answers;
+mod auditing;
+mod sealing;
+
+use auditing::audit_packed;
+use scheme::State;
+use sealing::append_packed;
+use sealing::close_packed;
+use sealing::open_packed;
 use sha256::Outcome;
 
 // The digest of the message and 0, or 32 zeros and refusal 1 where the message is too long.
@@ -36,4 +48,69 @@ fn number(outcome: Outcome) -> u32
         Outcome::Done => 0,
         Outcome::TooLong => 1,
     }
+}
+
+// Opens a store into the state, whatever the state was. A refused call leaves a state of zeros.
+#[no_mangle]
+pub extern "C" fn pahyndoi_open(
+    state: &mut State,
+    store: &[u8],
+    logs: &[u8],
+    lengths: &[u32],
+    seal: &[u8],
+    seal_length: u64,
+) -> u64
+    ensures { λ r. ⌜ Opened (now (store .entry)) (now (logs .entry)) (now (lengths .entry)) (now (seal .entry)) «seal_length» (record { code = r; state = now (state .exit) }) ⌝ }
+{
+    let done = open_packed(store, logs, lengths, seal, seal_length);
+    *state = done.state;
+    done.code
+}
+
+// Seals the bytes into their phase's log and steps the state on. A refused call alters nothing.
+#[no_mangle]
+pub extern "C" fn pahyndoi_append(
+    state: &mut State,
+    store: &mut [u8],
+    logs: &mut [u8],
+    seal: &mut [u8],
+    phase: u8,
+    bytes: &[u8],
+) -> u64
+    ensures { λ r. ⌜ Appended (now (state .entry)) (now (store .entry)) (now (logs .entry)) (now (seal .entry)) phase (now (bytes .entry)) (record { code = r; state = now (state .exit) }) (now (store .exit)) (now (logs .exit)) (now (seal .exit)) ⌝ }
+{
+    let s = *state;
+    let done = append_packed(s, store, logs, seal, phase, bytes);
+    *state = done.state;
+    done.code
+}
+
+// Fills up a half-used chunk and steps the state on. A refused call alters nothing.
+#[no_mangle]
+pub extern "C" fn pahyndoi_close(
+    state: &mut State,
+    store: &[u8],
+    logs: &[u8],
+    seal: &mut [u8],
+) -> u64
+    ensures { λ r. ⌜ Closed (now (state .entry)) (now (store .entry)) (now (logs .entry)) (now (seal .entry)) (record { code = r; state = now (state .exit) }) (now (seal .exit)) ⌝ }
+{
+    let s = *state;
+    let done = close_packed(s, store, logs, seal);
+    *state = done.state;
+    done.code
+}
+
+// Audits a device's store, logs and seal against the auditor's store, the lengths lent as 4 bytes each. Nothing is written.
+#[no_mangle]
+pub extern "C" fn pahyndoi_audit(
+    device: &[u8],
+    auditor: &[u8],
+    logs: &[u8],
+    lengths: &[u8],
+    seal: &[u8],
+) -> u64
+    ensures { λ r. ⌜ Audited (now (device .entry)) (now (auditor .entry)) (now (logs .entry)) (now (lengths .entry)) (now (seal .entry)) r ⌝ }
+{
+    audit_packed(device, auditor, logs, lengths, seal)
 }

@@ -1,0 +1,4 @@
+-- The laws that the functions' proofs cite.
+pub mod Held
+pub mod Packing
+pub mod Listing

@@ -1,0 +1,58 @@
+-- Every count fits beneath the refusal's number, and an answer packed from what a call gives is that of the call's effect.
+use mathlib.Core.Path.{_≡_, _∙_}
+use mathlib.Core.Bool.{cond}
+use mathlib.Core.List.{List}
+use mathlib.Core.Logic.{by-cases}
+use Prim.Native.Nat.{ℕ, _*_, _^_, _≤_, _<_}
+use native.Mathlib.Decide.{ℕ-discrete}
+use native.Mathlib.Nat.{mul-le-mul}
+use native.Mathlib.Omega.{arith}
+use borrow.Author.Tests.{eq-eqb, ne-eqb}
+use lib.Dec.{eqb}
+use Rattle.scheme.specs.Answers.{outcomeRefusal, outcomeCount}
+use Rattle.scheme.specs.Rules.{refusalBy}
+use Rattle.scheme.specs.Sealer.{Effect, Gives, opens, appends, appended, appendRules, closes, closed, closeRules, refused}
+use Rattle.scheme.specs.Store.{ratchet}
+use Rattle.scheme.specs.declared.Sealed.{Sealed}
+use Rattle.scheme.specs.declared.State.{State}
+use Rattle.sealer.proofs.Allowed as Allowed
+use Rattle.pahyndoi.specs.Surface.{packed}
+use Rattle.pahyndoi.specs.declared.sealing.Packed.{Packed}
+
+pub opens-count : (store logs lengths seal : List ℕ) (sealLength : ℕ) → opens store logs lengths seal sealLength .count < 2 ^ 32
+unfolding opens
+opens-count store logs lengths seal sealLength = omega arith
+
+-- a call that refuses has the count 0, and one that does not has that of the work done
+count-by : (n : ℕ) (done : Effect) (s : State) (store logs seal : List ℕ) → (n ≡ 0 → done .count < 2 ^ 32)
+    → cond (eqb n 0) done (refused n s store logs seal) .count < 2 ^ 32
+count-by n done s store logs seal small =
+    by-cases (ℕ-discrete n 0) (λ none. rw (eq-eqb n 0 none) (small none)) (λ some. rw (ne-eqb n 0 some) (omega arith))
+
+-- the number of an item: below 1,024 chunks of at most 256 keys each
+pub appends-count : (s : State) (store logs seal : List ℕ) (phase : ℕ) (bytes : List ℕ) → appends s store logs seal phase bytes .count < 2 ^ 32
+unfolding appends appended
+appends-count s store logs seal phase bytes =
+    count-by (refusalBy (appendRules s store logs seal phase bytes)) (appended s store logs seal phase bytes) s store logs seal
+    (λ none.
+    let allowed = Allowed.append s store logs seal phase bytes none in
+    let good = allowed .good in
+    let chunk : s .chunk .0 ≤ 1024 = omega (arith, allowed .chunk, good .chunksHigh) in
+    let most : s .chunk .0 * ratchet store ≤ 1024 * 256 = mul-le-mul chunk (good .ratchetHigh) in
+    omega (arith, most, allowed .offset, good .ratchetHigh))
+
+-- the number of fillers: at most one for each key of a chunk
+pub closes-count : (s : State) (store logs seal : List ℕ) → closes s store logs seal .count < 2 ^ 32
+unfolding closes closed
+closes-count s store logs seal =
+    count-by (refusalBy (closeRules s store logs seal)) (closed s store logs seal) s store logs seal
+    (λ none.
+    let allowed = Allowed.close s store logs seal none in
+    omega (arith, allowed .due, allowed .good .ratchetHigh))
+
+module _ (e : Effect) (sealed : Sealed) (gives : Gives e sealed) where
+  pub count-fits : e .count < 2 ^ 32 → outcomeCount (sealed .outcome) < 2 ^ 32
+  count-fits small = rw (gives .count) small
+
+  pub packed-answer : (r : Packed) → r .code ≡ packed (outcomeRefusal (sealed .outcome)) (outcomeCount (sealed .outcome)) → r .code ≡ packed (e .refusal) (e .count)
+  packed-answer r code = code ∙ rw (gives .refusal, gives .count)

@@ -1,0 +1,27 @@
+-- `pahyndoi::sealing::close_packed` meets its contract: it packs the answer that `close` gives, whose count is a number of fillers.
+use mathlib.Core.Path.{_∙_}
+use borrow.Author.Needs.{needs}
+use Rattle.pahyndoi.proofs.Packing.{closes-count, count-fits, packed-answer}
+use Rattle.pahyndoi.proofs.sealing.close_packed.Statement.{statement}
+use Rattle.pahyndoi.proofs.sealing.close_packed.Tie as tie
+
+close-requires : tie.Need-close-requires
+close-requires c κs = search needs
+
+pack-requires : tie.Need-pack-requires
+pack-requires c κs = count-fits _ _ (c .before .before .close .ensures .gives) (closes-count _ _ _ _)
+
+same-length : tie.Need-same-length
+same-length c = search needs
+
+returns : tie.Need-returns
+returns c =
+    let left = c .before .before .before .close .ensures in
+    record {
+      code = packed-answer _ _ (left .gives) (c .pack .result) (c .pack .ensures .0);
+      state = c .pack .ensures .1 ∙ left .gives .state;
+      seal-left = left .seal;
+    }
+
+pub close-packed-spec : {M : Type 1} → statement M
+close-packed-spec = tie.close (tie.spec close-requires pack-requires same-length returns)
