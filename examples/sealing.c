@@ -1,0 +1,94 @@
+/* A sealed log from the unused key store to the audit, with every call of pahyndoi.h. */
+
+#include <stdio.h>
+#include <string.h>
+
+#include "pahyndoi.h"
+
+enum { PHASES = 2, CHUNKS = 2, RATCHET = 3 };
+
+static uint8_t store[PAHYNDOI_HEADER_SIZE + CHUNKS * PAHYNDOI_CHUNK_SIZE];
+static uint8_t auditor[sizeof store];
+static uint8_t logs[PHASES * PAHYNDOI_LOG_SIZE];
+static uint8_t seal[CHUNKS * RATCHET * PAHYNDOI_ENTRY_SIZE];
+
+static void print_bytes(const char *name, const uint8_t *bytes, size_t size)
+{
+    printf("%s: ", name);
+    for (size_t i = 0; i < size; i++)
+        printf("%02x", bytes[i]);
+    printf("\n");
+}
+
+static void print_answer(const char *call, uint64_t answer)
+{
+    printf("%s: refusal %u, number %u\n", call, (unsigned)PAHYNDOI_REFUSAL(answer),
+           (unsigned)PAHYNDOI_NUMBER(answer));
+}
+
+/* An unused store. The chunks of a real one are random bytes, known to device and auditor alone. */
+static void make_store(void)
+{
+    store[0] = 1;
+    memcpy(store + 1, "device 7", 8);
+    store[9] = PHASES;
+    store[10] = CHUNKS;
+    store[14] = RATCHET;
+    for (size_t i = PAHYNDOI_HEADER_SIZE; i < sizeof store; i++)
+        store[i] = (uint8_t)i;
+}
+
+static uint64_t append(pahyndoi_state *state, uint8_t phase, const char *text)
+{
+    return pahyndoi_append(state, store, sizeof store, logs, sizeof logs, seal, sizeof seal,
+                           phase, (const uint8_t *)text, strlen(text));
+}
+
+/* The audit of the memories as they stand, with the lengths that the state holds, 4 bytes each. */
+static uint64_t audit(const pahyndoi_state *state)
+{
+    uint8_t lengths[4 * PHASES];
+    for (size_t i = 0; i < sizeof lengths; i++)
+        lengths[i] = (uint8_t)(state->lengths[i / 4] >> (8 * (i % 4)));
+    return pahyndoi_audit(store, sizeof store, auditor, sizeof auditor, logs, sizeof logs,
+                          lengths, sizeof lengths, seal, (size_t)state->seal_length);
+}
+
+/* The digest of "abc" (an example of FIPS 180-4), and the tag of RFC 4231's second case. */
+static void hash_known(void)
+{
+    uint8_t digest[32];
+    uint8_t tag[32];
+    const char *message = "what do ya want for nothing?";
+    if (pahyndoi_sha256((const uint8_t *)"abc", 3, digest) == PAHYNDOI_DONE)
+        print_bytes("sha256", digest, sizeof digest);
+    if (pahyndoi_hmac_sha256((const uint8_t *)"Jefe", 4, (const uint8_t *)message, strlen(message),
+                             tag) == PAHYNDOI_DONE)
+        print_bytes("hmac", tag, sizeof tag);
+}
+
+int main(void)
+{
+    const uint32_t lengths[PHASES] = {0, 0};
+    pahyndoi_state state;
+
+    hash_known();
+    make_store();
+    memcpy(auditor, store, sizeof store);
+
+    print_answer("open", pahyndoi_open(&state, store, sizeof store, logs, sizeof logs,
+                                       lengths, PHASES, seal, sizeof seal, 0));
+    print_answer("append", append(&state, 1, "door opened"));
+    print_answer("append", append(&state, 2, "fan at 40 %"));
+    print_answer("append", append(&state, 1, "door shut"));
+    print_answer("append", append(&state, 2, "fan off"));
+    print_answer("append to phase 3", append(&state, 3, "nowhere"));
+    print_answer("close", pahyndoi_close(&state, store, sizeof store, logs, sizeof logs,
+                                         seal, sizeof seal));
+    print_answer("audit", audit(&state));
+
+    /* "door shut" stands behind the 11 bytes of "door opened". */
+    logs[11] = 'D';
+    print_answer("audit of an altered log", audit(&state));
+    return 0;
+}
