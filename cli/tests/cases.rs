@@ -28,10 +28,12 @@ fn output_is_that_of_the_model() {
 
 /// The refusals of one call that the output shows, 0 for none.
 fn refusals(name: &str) -> Vec<u32> {
-    let calls = STDOUT.lines().filter_map(|line| line.strip_prefix(name));
-    let numbers: BTreeSet<u32> = calls
-        .filter_map(|answer| answer.split(' ').nth(1))
-        .filter_map(|number| number.parse().ok())
+    let lines = STDOUT
+        .lines()
+        .map(|line| line.split(' ').collect::<Vec<_>>());
+    let numbers: BTreeSet<u32> = lines
+        .filter(|words| words[0] == name)
+        .filter_map(|words| words[1].parse().ok())
         .collect();
     numbers.into_iter().collect()
 }
@@ -41,4 +43,6 @@ fn every_refusal_is_met() {
     assert_eq!(refusals("open"), [0, 2, 3, 4, 5, 6]);
     assert_eq!(refusals("append"), [0, 2, 3, 6, 7, 8, 9, 10, 11]);
     assert_eq!(refusals("close"), [0, 2, 3, 6, 10]);
+    let of_audit: Vec<u32> = [0].into_iter().chain(2..=5).chain(12..=23).collect();
+    assert_eq!(refusals("audit"), of_audit);
 }

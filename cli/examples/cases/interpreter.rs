@@ -2,7 +2,7 @@
 
 use std::fmt::Write;
 
-use pahyndoi::model::{self, Answer, Material, Position, State};
+use pahyndoi::model::{self, Answer, Material, Position, Presented, State};
 use pahyndoi::plain;
 
 use crate::record::*;
@@ -14,13 +14,9 @@ const SEAL_MEMORY_FILL: u8 = 0xdd;
 pub fn run(script: &[u8]) -> String {
     let (records, rest) = script.as_chunks();
     assert!(rest.is_empty(), "the script ends inside a record");
-    let mut machine = Machine {
-        material: material(&Record(&[0; RECORD_LENGTH])),
-        state: State::default(),
-        output: String::new(),
-    };
+    let mut machine = Machine::new();
     for record in records {
-        machine.step(&Record(record));
+        machine.step(record);
     }
     machine.output
 }
@@ -46,6 +42,15 @@ impl Record<'_> {
         str::from_utf8(text.expect("a first part")).expect("ASCII")
     }
 
+    /// As many of the nine lengths as byte 1 says.
+    fn log_lengths(&self) -> Vec<u32> {
+        let count = usize::from(self.byte(1));
+        assert!(count <= LENGTHS_LIMIT, "{count} lengths");
+        (0..count)
+            .map(|index| self.number(LENGTHS_START + 4 * index))
+            .collect()
+    }
+
     /// A number that is at most the limit.
     fn length(&self, index: usize, limit: u32) -> usize {
         let length = self.number(index);
@@ -69,18 +74,37 @@ fn material(record: &Record) -> Material {
     }
 }
 
-struct Machine {
-    material: Material,
-    state: State,
+/// What the records have brought about.
+pub struct Machine {
+    pub material: Material,
+    pub auditor_store: Vec<u8>,
+    pub state: State,
+    /// What the last call answered.
+    pub answer: Answer,
     output: String,
 }
 
 impl Machine {
-    fn step(&mut self, record: &Record) {
+    pub fn new() -> Machine {
+        Machine {
+            material: material(&Record(&[0; RECORD_LENGTH])),
+            auditor_store: Vec::new(),
+            state: State::default(),
+            answer: Answer {
+                refusal: 0,
+                number: 0,
+            },
+            output: String::new(),
+        }
+    }
+
+    pub fn step(&mut self, record: &[u8; RECORD_LENGTH]) {
+        let record = &Record(record);
         match record.byte(0) {
             LABEL => self.print(record.text()),
             MATERIAL => {
                 self.material = material(record);
+                self.auditor_store.clear();
                 self.state = State::default();
             }
             OPEN => self.open(record),
@@ -90,17 +114,59 @@ impl Machine {
                 self.print_call("close", answer);
             }
             SET_STATE => set_state(&mut self.state, record),
-            SET_STORE => self.material.store[record.number(4) as usize] = record.byte(1),
+            SET_BYTES => self.set_bytes(record),
+            SET_LENGTH => self.set_length(record),
+            KEEP => self.auditor_store = self.material.store.clone(),
+            AUDIT => self.audit(record),
             operation => panic!("operation {operation}"),
         }
     }
 
+    /// The memory of this number.
+    pub fn memory(&mut self, number: u8) -> &mut Vec<u8> {
+        match number {
+            MEMORY_STORE => &mut self.material.store,
+            MEMORY_LOGS => &mut self.material.log_memory,
+            MEMORY_SEAL => &mut self.material.seal_memory,
+            MEMORY_AUDITOR => &mut self.auditor_store,
+            number => panic!("memory {number}"),
+        }
+    }
+
+    fn set_bytes(&mut self, record: &Record) {
+        let start = record.number(4) as usize;
+        let bytes = &record.0[BYTES_START..][..usize::from(record.byte(2))];
+        let memory = self.memory(record.byte(1));
+        memory[start..start + bytes.len()].copy_from_slice(bytes);
+    }
+
+    fn set_length(&mut self, record: &Record) {
+        let limit = match record.byte(1) {
+            MEMORY_LOGS => LOG_MEMORY_LIMIT,
+            MEMORY_SEAL => SEAL_MEMORY_LIMIT,
+            _ => STORE_LIMIT,
+        };
+        let length = record.length(4, limit);
+        self.memory(record.byte(1)).resize(length, 0);
+    }
+
+    fn audit(&mut self, record: &Record) {
+        let seal_length = record.length(4, SEAL_MEMORY_LIMIT);
+        self.answer = model::audit(
+            model::plain_hmac,
+            &Presented {
+                device_store: &self.material.store,
+                auditor_store: &self.auditor_store,
+                log_memory: &self.material.log_memory,
+                log_lengths: &record.log_lengths(),
+                seal_file: &self.material.seal_memory[..seal_length],
+            },
+        );
+        self.print_audit();
+    }
+
     fn open(&mut self, record: &Record) {
-        let count = usize::from(record.byte(1));
-        assert!(count <= LENGTHS_LIMIT, "{count} lengths");
-        let log_lengths: Vec<u32> = (0..count)
-            .map(|index| record.number(LENGTHS_START + 4 * index))
-            .collect();
+        let log_lengths = record.log_lengths();
         let (refusal, state) = model::open(&self.material, &log_lengths, record.long_number(8));
         self.state = state;
         self.print_call("open", Answer { refusal, number: 0 });
@@ -126,18 +192,32 @@ impl Machine {
 
     /// The refusal, the count and what stands after the call.
     fn print_call(&mut self, name: &str, answer: Answer) {
+        self.answer = answer;
         let Answer { refusal, number } = answer;
+        let state = short_digest(&state_bytes(&self.state));
+        let [store, logs, seals] = self.material_digests();
+        self.print(&format!(
+            "{name} {refusal} {number} {state} {store} {logs} {seals}"
+        ));
+    }
+
+    /// The refusal, the number and what was read.
+    fn print_audit(&mut self) {
+        let Answer { refusal, number } = self.answer;
+        let [store, logs, seals] = self.material_digests();
+        let auditor = short_digest(&self.auditor_store);
+        self.print(&format!(
+            "audit {refusal} {number} {store} {logs} {seals} {auditor}"
+        ));
+    }
+
+    fn material_digests(&self) -> [String; 3] {
         let Material {
             store,
             log_memory,
             seal_memory,
         } = &self.material;
-        let state = short_digest(&state_bytes(&self.state));
-        let [store, logs, seals] =
-            [store, log_memory, seal_memory].map(|bytes| short_digest(bytes));
-        self.print(&format!(
-            "{name} {refusal} {number} {state} {store} {logs} {seals}"
-        ));
+        [store, log_memory, seal_memory].map(|bytes| short_digest(bytes))
     }
 }
 

@@ -6,8 +6,9 @@ pub const RECORD_LENGTH: usize = 64;
 /// A label's text: ASCII, zeros behind it.
 pub const LABEL: u8 = 0;
 
-/// New store, memories and state of zeros. 1: kind, 2: phases, 4: chunk count,
-/// 8: N, 12: store length, 16: log memory length, 20: seal memory length.
+/// New store, memories and state of zeros, no auditor's store. 1: kind,
+/// 2: phases, 4: chunk count, 8: N, 12: store length, 16: log memory length,
+/// 20: seal memory length.
 pub const MATERIAL: u8 = 1;
 
 /// 1: the number of lengths, 8: seal length (8 bytes), 16: nine lengths.
@@ -22,8 +23,18 @@ pub const CLOSE: u8 = 4;
 /// bytes.
 pub const SET_STATE: u8 = 5;
 
-/// 1: value, 4: index.
-pub const SET_STORE: u8 = 6;
+/// 1: which memory, 2: how many bytes, 4: index, 8: the bytes.
+pub const SET_BYTES: u8 = 6;
+
+/// 1: which memory, 4: length. Zeros are added at the end where it grows.
+pub const SET_LENGTH: u8 = 7;
+
+/// The auditor's store becomes a copy of the present store.
+pub const KEEP: u8 = 8;
+
+/// 1: the number of lengths, 4: how many bytes of the seal memory are the seal
+/// file, 16: nine lengths.
+pub const AUDIT: u8 = 9;
 
 pub const FIELD_CHUNK: u8 = 0;
 pub const FIELD_OFFSET: u8 = 1;
@@ -31,12 +42,23 @@ pub const FIELD_SEAL_LENGTH: u8 = 2;
 pub const FIELD_LOG_LENGTH: u8 = 3;
 pub const FIELD_HELD_KEY: u8 = 4;
 
+pub const MEMORY_STORE: u8 = 0;
+pub const MEMORY_LOGS: u8 = 1;
+pub const MEMORY_SEAL: u8 = 2;
+pub const MEMORY_AUDITOR: u8 = 3;
+
+/// The most bytes that one record sets.
+pub const BYTES_LIMIT: usize = 54;
+
+pub const BYTES_START: usize = 8;
+
 /// The most lengths that one record lends.
 pub const LENGTHS_LIMIT: usize = 9;
 
 pub const LENGTHS_START: usize = 16;
 
 /// The longest that a program reading the script must hold.
+pub const SCRIPT_LIMIT: usize = 98_304;
 pub const STORE_LIMIT: u32 = 40_000;
 pub const LOG_MEMORY_LIMIT: u32 = 65_536;
 pub const SEAL_MEMORY_LIMIT: u32 = 16_384;

@@ -1,14 +1,15 @@
-// The three calls, each on as much of the memories as the view says, with its line.
+// The four calls, each on as much of the memories as the view says, with its line.
 ghost use mathlib.Core.Path.{_≡_};
-ghost use Prim.Native.Nat.{_≤_};
 ghost use lib.ListN.{length};
 use crate::material::View;
+use crate::memory::at_most;
 use crate::memory::within;
 use crate::record::byte;
 use crate::record::seal_length;
 use crate::record::size;
 use crate::record::word;
 use crate::report::line;
+use crate::report::verdict_line;
 
 // The most lengths that a record lends.
 const MAX_LENGTHS: usize = 9;
@@ -63,6 +64,30 @@ pub fn close(view: View, store: &[u8], logs: &[u8], seal: &mut [u8]) -> View {
     line(b"close", sealed, view, store, logs, seal)
 }
 
+pub fn audit(
+    view: View,
+    record: &[u8],
+    store: &[u8],
+    logs: &[u8],
+    seal: &[u8],
+    auditor: &[u8],
+) -> View {
+    let a = within(view.store, store);
+    let b = within(view.auditor, auditor);
+    let c = within(view.logs, logs);
+    let d = within(size(record, 4), seal);
+    let lengths = lengths_of(record);
+    let n = at_most(MAX_LENGTHS, byte(record, 1) as usize);
+    let verdict = audit::audit(
+        &store[..a],
+        &auditor[..b],
+        &logs[..c],
+        &lengths[..n],
+        &seal[..d],
+    );
+    verdict_line(verdict, view, store, logs, seal, auditor)
+}
+
 // The log lengths that a record has.
 fn lengths_of(record: &[u8]) -> [u32; MAX_LENGTHS]
     ensures { λ r. ⌜ 9 ≡ length r ⌝ }
@@ -91,10 +116,4 @@ fn data_of(first: u8) -> [u8; MAX_DATA]
         next = std::num::wrapping_add_u8(next, 1);
     }
     bytes
-}
-
-fn at_most(most: usize, n: usize) -> usize
-    ensures { λ r. ⌜ r ≤ most ⌝ }
-{
-    if n < most { n } else { most }
 }

@@ -1,8 +1,10 @@
-// Runs a script of calls through the sealer and writes a line for each call: what it answered, and digests of all it may change.
+// Runs a script of calls through the sealer and the audit and writes a line for each call: what it answered, and digests of all it may
+// change.
 ghost use mathlib.Core.Path.{_≡_};
 ghost use lib.ListN.{length};
 
 mod calls;
+mod change;
 mod material;
 mod memory;
 mod record;
@@ -20,21 +22,29 @@ fn main() {
     let mut store = store_memory();
     let mut logs = log_memory();
     let mut seal = seal_memory();
-    run(&script[..n], &mut store, &mut logs, &mut seal);
+    let mut auditor = store_memory();
+    run(&script[..n], &mut store, &mut logs, &mut seal, &mut auditor);
 }
 
 // Record after record; a shorter rest at the end is ignored.
-fn run(script: &[u8], store: &mut [u8], logs: &mut [u8], seal: &mut [u8]) {
+fn run(script: &[u8], store: &mut [u8], logs: &mut [u8], seal: &mut [u8], auditor: &mut [u8]) {
     let mut view = material::nothing();
     let mut at = 0;
     while RECORD_LENGTH <= script.len() - at {
         let end = at + RECORD_LENGTH;
-        view = step(view, &script[at..end], store, logs, seal);
+        view = step(view, &script[at..end], store, logs, seal, auditor);
         at = end;
     }
 }
 
-fn step(view: View, record: &[u8], store: &mut [u8], logs: &mut [u8], seal: &mut [u8]) -> View {
+fn step(
+    view: View,
+    record: &[u8],
+    store: &mut [u8],
+    logs: &mut [u8],
+    seal: &mut [u8],
+    auditor: &mut [u8],
+) -> View {
     let operation = record::byte(record, 0);
     match operation {
         0 => report::label(view, record),
@@ -42,17 +52,20 @@ fn step(view: View, record: &[u8], store: &mut [u8], logs: &mut [u8], seal: &mut
         2 => calls::open(view, record, store, logs, seal),
         3 => calls::append(view, record, store, logs, seal),
         4 => calls::close(view, store, logs, seal),
-        5 => material::set_state(view, record),
-        6 => material::set_store(view, record, store),
+        5 => change::set_state(view, record),
+        6 => change::set_bytes(view, record, store, logs, seal, auditor),
+        7 => change::set_length(view, record, store, logs, seal, auditor),
+        8 => change::keep(view, store, auditor),
+        9 => calls::audit(view, record, store, logs, seal, auditor),
         _ => view,
     }
 }
 
 // Of these arrays only the length is stated, so that no proof carries their bytes.
-fn script_memory() -> [u8; 32768]
-    ensures { λ r. ⌜ 32768 ≡ length r ⌝ }
+fn script_memory() -> [u8; 98304]
+    ensures { λ r. ⌜ 98304 ≡ length r ⌝ }
 {
-    [0; 32768]
+    [0; 98304]
 }
 
 fn store_memory() -> [u8; 40000]

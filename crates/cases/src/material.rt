@@ -1,10 +1,8 @@
-// What the calls work on: how it is made, and how a record changes one part of it.
+// What the calls work on, and how a record makes it.
 use crate::memory::fill;
 use crate::memory::within;
 use crate::record::byte;
-use crate::record::seal_length;
 use crate::record::size;
-use crate::record::word;
 use scheme::ChunkNumber;
 use scheme::RatchetOffset;
 use scheme::State;
@@ -15,6 +13,7 @@ pub struct View {
     pub store: usize,
     pub logs: usize,
     pub seal: usize,
+    pub auditor: usize,
 }
 
 const HEADER_LENGTH: usize = 18;
@@ -30,10 +29,11 @@ pub fn nothing() -> View {
         store: 0,
         logs: 0,
         seal: 0,
+        auditor: 0,
     }
 }
 
-// A state of zeros, and the memories of the record's lengths, filled.
+// A state of zeros, the memories of the record's lengths, filled, and nothing that the auditor keeps.
 pub fn new(record: &[u8], store: &mut [u8], logs: &mut [u8], seal: &mut [u8]) -> View {
     let a = within(size(record, 12), store);
     let b = within(size(record, 16), logs);
@@ -46,28 +46,8 @@ pub fn new(record: &[u8], store: &mut [u8], logs: &mut [u8], seal: &mut [u8]) ->
         store: a,
         logs: b,
         seal: c,
+        auditor: 0,
     }
-}
-
-// One field of the state set.
-pub fn set_state(view: View, record: &[u8]) -> View {
-    let state = changed(view.state, record);
-    View {
-        state,
-        store: view.store,
-        logs: view.logs,
-        seal: view.seal,
-    }
-}
-
-// One byte of the store set, where the store has it.
-pub fn set_store(view: View, record: &[u8], store: &mut [u8]) -> View {
-    let n = within(view.store, store);
-    let at = size(record, 4);
-    if at < n {
-        store[at] = byte(record, 1);
-    }
-    view
 }
 
 fn zeros() -> State {
@@ -78,40 +58,6 @@ fn zeros() -> State {
         lengths: [0; 8],
         seal_length: 0,
     }
-}
-
-// The state with the record's value in the field that byte 1 names.
-fn changed(mut state: State, record: &[u8]) -> State {
-    let field = byte(record, 1);
-    match field {
-        0 => {
-            let chunk = ChunkNumber(word(record, 4));
-            state.chunk = chunk;
-        }
-        1 => {
-            let offset = RatchetOffset(word(record, 4));
-            state.offset = offset;
-        }
-        2 => state.seal_length = seal_length(record),
-        3 => {
-            let old = state.lengths;
-            let lengths = with_length(old, record);
-            state.lengths = lengths;
-        }
-        4 => {
-            let key = [byte(record, 2); 32];
-            state.key = key;
-        }
-        _ => {}
-    }
-    state
-}
-
-// The log lengths with the one that byte 2 names set.
-fn with_length(mut lengths: [u32; 8], record: &[u8]) -> [u32; 8] {
-    let i = (byte(record, 2) % 8) as usize;
-    lengths[i] = word(record, 4);
-    lengths
 }
 
 fn write_store(store: &mut [u8], record: &[u8]) {

@@ -1,12 +1,14 @@
-//! The script: sealing under several shapes of store, each refusal of open,
-//! append and close at its two sides, and the order of refusals.
+//! The script: sealing under several shapes of store, audits of what it leaves
+//! and of what is forged, each refusal at its two sides, and their order.
 
+mod audits;
 mod fit;
 mod limits;
 mod order;
 mod sealing;
 mod stores;
 
+use crate::interpreter::Machine;
 use crate::record::*;
 
 const HEADER_LENGTH: u32 = 18;
@@ -15,13 +17,21 @@ const LOG_CAPACITY: u32 = 8192;
 
 /// The script's bytes.
 pub fn script() -> Vec<u8> {
-    let mut script = Script(Vec::new());
+    let mut script = Script {
+        records: Vec::new(),
+        machine: Machine::new(),
+    };
     sealing::groups(&mut script);
     stores::groups(&mut script);
     fit::groups(&mut script);
     limits::groups(&mut script);
     order::groups(&mut script);
-    script.0
+    audits::groups(&mut script);
+    assert!(
+        script.records.len() <= SCRIPT_LIMIT,
+        "the script is too long"
+    );
+    script.records
 }
 
 /// What a record of new material says.
@@ -52,7 +62,11 @@ impl Shape {
     }
 }
 
-struct Script(Vec<u8>);
+struct Script {
+    records: Vec<u8>,
+    /// What the records so far bring about.
+    machine: Machine,
+}
 
 impl Script {
     fn label(&mut self, text: &str) {
@@ -79,16 +93,12 @@ impl Script {
     }
 
     fn open(&mut self, log_lengths: &[u32], seal_length: u64) {
-        let lengths: Vec<u8> = log_lengths
-            .iter()
-            .flat_map(|length| length.to_le_bytes())
-            .collect();
         self.push(
             OPEN,
             &[
                 (1, &[log_lengths.len() as u8]),
                 (8, &seal_length.to_le_bytes()),
-                (LENGTHS_START, &lengths),
+                (LENGTHS_START, &length_bytes(log_lengths)),
             ],
         );
     }
@@ -141,7 +151,37 @@ impl Script {
     }
 
     fn set_store(&mut self, index: u32, value: u8) {
-        self.push(SET_STORE, &[(1, &[value]), (4, &index.to_le_bytes())]);
+        self.set_bytes(MEMORY_STORE, index, &[value]);
+    }
+
+    fn set_bytes(&mut self, memory: u8, index: u32, bytes: &[u8]) {
+        self.push(
+            SET_BYTES,
+            &[
+                (1, &[memory, bytes.len() as u8]),
+                (4, &index.to_le_bytes()),
+                (BYTES_START, bytes),
+            ],
+        );
+    }
+
+    fn set_length(&mut self, memory: u8, length: u32) {
+        self.push(SET_LENGTH, &[(1, &[memory]), (4, &length.to_le_bytes())]);
+    }
+
+    fn keep(&mut self) {
+        self.push(KEEP, &[]);
+    }
+
+    fn audit(&mut self, log_lengths: &[u32], seal_length: u32) {
+        self.push(
+            AUDIT,
+            &[
+                (1, &[log_lengths.len() as u8]),
+                (4, &seal_length.to_le_bytes()),
+                (LENGTHS_START, &length_bytes(log_lengths)),
+            ],
+        );
     }
 
     /// A record with these bytes at these places and zeros elsewhere.
@@ -151,6 +191,12 @@ impl Script {
         for (start, bytes) in parts {
             record[*start..start + bytes.len()].copy_from_slice(bytes);
         }
-        self.0.extend(record);
+        self.machine.step(&record);
+        self.records.extend(record);
     }
+}
+
+fn length_bytes(log_lengths: &[u32]) -> Vec<u8> {
+    let numbers = log_lengths.iter();
+    numbers.flat_map(|length| length.to_le_bytes()).collect()
 }

@@ -7,11 +7,15 @@ use Rattle.cases.proofs.run.Statement.{statement}
 use Rattle.cases.proofs.run.Tie as tie
 
 abbrev Inv-loop : tie.InvT-loop
-Inv-loop script store₀ logs₀ seal₀ view₀ at₀ store logs seal view at =
-    (at ≤ length script) × (length store ≡ length store₀) × (length logs ≡ length logs₀) × (length seal ≡ length seal₀)
+Inv-loop script store₀ logs₀ seal₀ auditor₀ view₀ at₀ store logs seal auditor view at =
+    (at ≤ length script)
+    × (length store ≡ length store₀)
+    × (length logs ≡ length logs₀)
+    × (length seal ≡ length seal₀)
+    × (length auditor ≡ length auditor₀)
 
 abbrev μ-loop : tie.MeasureT-loop
-μ-loop script store₀ logs₀ seal₀ view₀ at₀ store logs seal view at = length script - at
+μ-loop script store₀ logs₀ seal₀ auditor₀ view₀ at₀ store logs seal auditor view at = length script - at
 
 nothing-requires : tie.Need-nothing-requires Inv-loop μ-loop
 nothing-requires c κs = search needs
@@ -52,6 +56,9 @@ same-length-2 c = search needs
 same-length-3 : tie.Need-same-length-3 Inv-loop μ-loop
 same-length-3 c = search needs
 
+same-length-4 : tie.Need-same-length-4 Inv-loop μ-loop
+same-length-4 c = search needs
+
 returns : tie.Need-returns Inv-loop μ-loop
 returns c = search needs
 
@@ -74,4 +81,5 @@ run-spec =
     same-length
     same-length-2
     same-length-3
+    same-length-4
     returns)
