@@ -11,6 +11,7 @@ mod rival;
 mod timing;
 
 use std::hint::black_box;
+use std::time::Duration;
 
 use pahyndoi::{hmac_sha256_raw, plain, sha256_raw};
 use timing::{Contender, minimum_times};
@@ -23,6 +24,7 @@ const SHA256_LENGTHS: [(&str, usize); 5] = [
     ("1 MiB", 1_048_576),
 ];
 const HMAC_LENGTHS: [(&str, usize); 3] = [("34 B", 34), ("64 B", 64), ("512 B", 512)];
+const ALL_ROUNDS: Duration = Duration::from_millis(1500);
 const KEY: [u8; 32] = [0x4b; 32];
 
 /// The columns, in the order of the contenders after ours.
@@ -59,12 +61,12 @@ fn print_heading() {
     println!();
 }
 
-fn print_case(call: &str, label: &str, contenders: &[Contender<'_>; 5]) {
+fn print_case(call: &str, label: &str, contenders: &[Contender<'_, [u8; 32]>; 5]) {
     let expected = contenders[0]();
     for contender in contenders {
         assert_eq!(contender(), expected, "contenders disagree");
     }
-    let [ours, rivals @ ..] = minimum_times(contenders);
+    let [ours, rivals @ ..] = minimum_times(ALL_ROUNDS, contenders);
     print!("{call:<22}{label:>8}");
     for time in rivals {
         print!("{:>12.2}", time / ours);

@@ -1,5 +1,7 @@
 //! The C calls of the static library, as `include/pahyndoi.h` declares them.
 
+use std::fmt;
+
 use crate::DIGEST_LENGTH;
 
 unsafe extern "C" {
@@ -11,6 +13,169 @@ unsafe extern "C" {
         message_length: usize,
         tag: *mut u8,
     ) -> u32;
+    fn pahyndoi_open(
+        state: *mut State,
+        store: *const u8,
+        store_length: usize,
+        logs: *const u8,
+        logs_length: usize,
+        lengths: *const u32,
+        lengths_count: usize,
+        seal: *const u8,
+        seal_memory_length: usize,
+        seal_length: u64,
+    ) -> u64;
+    fn pahyndoi_append(
+        state: *mut State,
+        store: *mut u8,
+        store_length: usize,
+        logs: *mut u8,
+        logs_length: usize,
+        seal: *mut u8,
+        seal_memory_length: usize,
+        phase: u8,
+        data: *const u8,
+        data_length: usize,
+    ) -> u64;
+    fn pahyndoi_close(
+        state: *mut State,
+        store: *const u8,
+        store_length: usize,
+        logs: *const u8,
+        logs_length: usize,
+        seal: *mut u8,
+        seal_memory_length: usize,
+    ) -> u64;
+    fn pahyndoi_audit(
+        device: *const u8,
+        device_length: usize,
+        auditor: *const u8,
+        auditor_length: usize,
+        logs: *const u8,
+        logs_length: usize,
+        lengths: *const u8,
+        lengths_length: usize,
+        seal: *const u8,
+        seal_length: usize,
+    ) -> u64;
+}
+
+/// The sealing state, laid out as `struct pahyndoi_state`.
+#[repr(C)]
+#[derive(Clone, Copy, Default, PartialEq, Eq)]
+pub struct State {
+    pub chunk: u32,
+    pub offset: u32,
+    pub key: [u8; 32],
+    pub lengths: [u32; 8],
+    pub seal_length: u64,
+}
+
+/// All but the held key, which belongs in no log.
+impl fmt::Debug for State {
+    fn fmt(&self, formatter: &mut fmt::Formatter<'_>) -> fmt::Result {
+        formatter
+            .debug_struct("State")
+            .field("chunk", &self.chunk)
+            .field("offset", &self.offset)
+            .field("lengths", &self.lengths)
+            .field("seal_length", &self.seal_length)
+            .finish_non_exhaustive()
+    }
+}
+
+/// Fills the state and gives the call's answer: the refusal times 2^32.
+pub fn open_raw(
+    state: &mut State,
+    store: &[u8],
+    logs: &[u8],
+    lengths: &[u32],
+    seal: &[u8],
+    seal_length: u64,
+) -> u64 {
+    // SAFETY: each slice is readable for its length and no pointer is null;
+    // the state is borrowed mutably and overlaps none of them.
+    unsafe {
+        pahyndoi_open(
+            state,
+            store.as_ptr(),
+            store.len(),
+            logs.as_ptr(),
+            logs.len(),
+            lengths.as_ptr(),
+            lengths.len(),
+            seal.as_ptr(),
+            seal.len(),
+            seal_length,
+        )
+    }
+}
+
+/// Seals the data and gives the call's answer: the item's number, or the
+/// refusal times 2^32; then nothing is altered.
+pub fn append_raw(
+    state: &mut State,
+    store: &mut [u8],
+    logs: &mut [u8],
+    seal: &mut [u8],
+    phase: u8,
+    data: &[u8],
+) -> u64 {
+    // SAFETY: each slice is readable for its length and no pointer is null;
+    // state, store, logs and seal are borrowed mutably, so nothing overlaps.
+    unsafe {
+        pahyndoi_append(
+            state,
+            store.as_mut_ptr(),
+            store.len(),
+            logs.as_mut_ptr(),
+            logs.len(),
+            seal.as_mut_ptr(),
+            seal.len(),
+            phase,
+            data.as_ptr(),
+            data.len(),
+        )
+    }
+}
+
+/// Writes the fillers that are due and gives the call's answer: their number,
+/// or the refusal times 2^32; then nothing is altered.
+pub fn close_raw(state: &mut State, store: &[u8], logs: &[u8], seal: &mut [u8]) -> u64 {
+    // SAFETY: each slice is readable for its length and no pointer is null;
+    // state and seal are borrowed mutably, so nothing overlaps them.
+    unsafe {
+        pahyndoi_close(
+            state,
+            store.as_ptr(),
+            store.len(),
+            logs.as_ptr(),
+            logs.len(),
+            seal.as_mut_ptr(),
+            seal.len(),
+        )
+    }
+}
+
+/// Audits the material and gives the call's answer: the item count when it is
+/// accepted, else the refusal times 2^32 plus the item's number.
+pub fn audit_raw(device: &[u8], auditor: &[u8], logs: &[u8], lengths: &[u8], seal: &[u8]) -> u64 {
+    // SAFETY: each slice is readable for its length and no pointer is null;
+    // nothing is written.
+    unsafe {
+        pahyndoi_audit(
+            device.as_ptr(),
+            device.len(),
+            auditor.as_ptr(),
+            auditor.len(),
+            logs.as_ptr(),
+            logs.len(),
+            lengths.as_ptr(),
+            lengths.len(),
+            seal.as_ptr(),
+            seal.len(),
+        )
+    }
 }
 
 /// Writes the digest and gives the call's number: 0, or 1 when the message is

@@ -1,55 +1,41 @@
-//! SHA-256 (FIPS 180-4) and HMAC-SHA-256 (RFC 2104) by the proved functions
-//! of the static library `pahyndoi`.
+//! The calls of the static library `pahyndoi`, each of them proved: SHA-256
+//! (FIPS 180-4), HMAC-SHA-256 (RFC 2104), the sealing of logs ([`open`],
+//! [`append`], [`close`]) and the [`audit`] of what is presented.
+//!
+//! ```
+//! use pahyndoi::{Material, append, audit, close, open};
+//!
+//! // One phase, one chunk, two keys from it. Real keys are random.
+//! let mut unused = vec![1, 0, 0, 0, 0, 0, 0, 0, 7, 1, 1, 0, 0, 0, 2, 0, 0, 0];
+//! unused.extend([0x5a; 32]);
+//! let mut store = unused.clone();
+//! let (mut logs, mut seal) = (vec![0; 8192], vec![0; 200]);
+//!
+//! let mut state = open(&store, &logs, &[0], &seal, 0)?;
+//! append(&mut state, &mut store, &mut logs, &mut seal, 1, b"07:00 164")?;
+//! close(&mut state, &store, &logs, &mut seal)?;
+//!
+//! let count = audit(&Material {
+//!     device_store: &store,
+//!     auditor_store: &unused,
+//!     logs: &logs,
+//!     lengths: &state.lengths[0].to_le_bytes(),
+//!     seal_file: &seal[..state.seal_length as usize],
+//! })?;
+//! assert_eq!(count, 2);
+//! # Ok::<(), Box<dyn std::error::Error>>(())
+//! ```
 
+mod desk;
 mod ffi;
+mod hash;
 pub mod model;
 pub mod plain;
+mod refusal;
+mod sealer;
 
-pub use ffi::{hmac_sha256_raw, sha256_raw};
-
-use std::error::Error;
-use std::fmt;
-
-/// The length in bytes of a digest and of a tag.
-pub const DIGEST_LENGTH: usize = 32;
-
-/// The longest message, and the longest key, in bytes.
-pub const LENGTH_LIMIT: usize = 1_048_576;
-
-/// The number, other than 0, by which a proved function refused its input.
-#[derive(Clone, Copy, Debug, PartialEq, Eq)]
-pub struct Refusal(pub u32);
-
-impl fmt::Display for Refusal {
-    fn fmt(&self, formatter: &mut fmt::Formatter<'_>) -> fmt::Result {
-        match self.0 {
-            1 => write!(
-                formatter,
-                "refused: message or key over {LENGTH_LIMIT} bytes"
-            ),
-            number => write!(formatter, "refused with number {number}"),
-        }
-    }
-}
-
-impl Error for Refusal {}
-
-/// The SHA-256 digest of a message of at most [`LENGTH_LIMIT`] bytes.
-pub fn sha256(message: &[u8]) -> Result<[u8; DIGEST_LENGTH], Refusal> {
-    let mut digest = [0; DIGEST_LENGTH];
-    accept(sha256_raw(message, &mut digest), digest)
-}
-
-/// The HMAC-SHA-256 tag of a message under a key, each of at most
-/// [`LENGTH_LIMIT`] bytes.
-pub fn hmac_sha256(key: &[u8], message: &[u8]) -> Result<[u8; DIGEST_LENGTH], Refusal> {
-    let mut tag = [0; DIGEST_LENGTH];
-    accept(hmac_sha256_raw(key, message, &mut tag), tag)
-}
-
-fn accept(number: u32, bytes: [u8; DIGEST_LENGTH]) -> Result<[u8; DIGEST_LENGTH], Refusal> {
-    match number {
-        0 => Ok(bytes),
-        _ => Err(Refusal(number)),
-    }
-}
+pub use desk::{Material, Rejected, audit};
+pub use ffi::{State, append_raw, audit_raw, close_raw, hmac_sha256_raw, open_raw, sha256_raw};
+pub use hash::{DIGEST_LENGTH, LENGTH_LIMIT, hmac_sha256, sha256};
+pub use refusal::Refusal;
+pub use sealer::{append, close, open};

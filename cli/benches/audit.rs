@@ -1,0 +1,161 @@
+//! How fast the proved audit is beside the model's, and whether an item takes
+//! longer among many, all measured in one run.
+
+#[path = "rivals/mod.rs"]
+mod rivals;
+#[path = "timing/mod.rs"]
+mod timing;
+
+use std::hint::black_box;
+use std::time::Duration;
+
+use pahyndoi::audit_raw;
+use pahyndoi::model::{
+    FILLER_LENGTH, Hmac, LOG_CAPACITY, Material, PHASE_LIMIT, Presented, State, append,
+    audit_packed, close,
+};
+use timing::minimum_times;
+
+/// Chunks, N, and how long the rounds take: 1,000 items, 10,000, and the
+/// largest material that a header allows.
+const SIZES: [(u32, u32, Duration); 3] = [
+    (5, 200, Duration::from_secs(2)),
+    (50, 200, Duration::from_secs(3)),
+    (1024, 256, Duration::from_secs(24)),
+];
+const GROWTH_ROUNDS: Duration = Duration::from_secs(12);
+
+/// One item in so many is an entry of one byte, the others are fillers: with
+/// 65,536 entries the logs of the largest material are full.
+const ITEMS_FOR_AN_ENTRY: u32 = 4;
+
+/// What a controller left that closed each chunk after a quarter of its keys.
+struct Left {
+    items: u32,
+    unused_store: Vec<u8>,
+    material: Material,
+    state: State,
+}
+
+fn main() {
+    let sizes = SIZES.map(|(chunk_count, ratchet, _)| Left::new(chunk_count, ratchet));
+    rivals::print_heading("the audit");
+    println!("A quarter of the items are entries of one byte, the others fillers.");
+    print!("{:>8}", "items");
+    for name in rivals::NAMES {
+        print!("{name:>12}");
+    }
+    println!();
+    for (left, (.., all_rounds)) in sizes.iter().zip(SIZES) {
+        print_ratios(left, all_rounds);
+    }
+    println!();
+    print_growth(&sizes);
+}
+
+fn print_ratios(left: &Left, all_rounds: Duration) {
+    let audits = rivals::HMACS.map(|hmac| move || left.audit_by_model(hmac));
+    let [portable_c, libcrypto, plain_rust] = &audits;
+    for answer in [left.audit(), portable_c(), libcrypto(), plain_rust()] {
+        assert_eq!(answer, left.items.into(), "the material is not accepted");
+    }
+    let [ours, times @ ..] = minimum_times(
+        all_rounds,
+        &[&|| left.audit(), portable_c, libcrypto, plain_rust],
+    );
+    print!("{:>8}", left.items);
+    for time in times {
+        print!("{:>12.2}", time / ours);
+    }
+    println!();
+}
+
+/// The smaller materials are audited so often that each turn has about as many
+/// items as the largest one: all are disturbed alike.
+fn print_growth(sizes: &[Left; 3]) {
+    println!("Our time for an item, as a multiple of that among the fewest.");
+    let largest = sizes[2].items;
+    let repeats = sizes.each_ref().map(|left| largest / left.items);
+    let audits = [0, 1, 2].map(|size| {
+        let (left, count) = (&sizes[size], repeats[size]);
+        move || (0..count).map(|_| left.audit()).sum::<u64>()
+    });
+    let [few, more, most] = &audits;
+    let times = minimum_times(GROWTH_ROUNDS, &[few, more, most]);
+    let an_item = [0, 1, 2].map(|size| times[size] / f64::from(repeats[size] * sizes[size].items));
+    for (left, time) in sizes.iter().zip(an_item) {
+        println!("{:>8}{:>12.2}", left.items, time / an_item[0]);
+    }
+}
+
+impl Left {
+    fn new(chunk_count: u32, ratchet: u32) -> Left {
+        let store = unused_store(chunk_count, ratchet);
+        let items = (chunk_count * ratchet) as usize;
+        let entries = items / ITEMS_FOR_AN_ENTRY as usize;
+        let mut left = Left {
+            items: chunk_count * ratchet,
+            unused_store: store.clone(),
+            material: Material {
+                store,
+                log_memory: vec![0; LOG_CAPACITY * PHASE_LIMIT],
+                // An entry is 9 bytes longer than a filler.
+                seal_memory: vec![0; FILLER_LENGTH * items + 9 * entries],
+            },
+            state: State::default(),
+        };
+        for _ in 0..chunk_count {
+            left.use_chunk(ratchet / ITEMS_FOR_AN_ENTRY);
+        }
+        left
+    }
+
+    /// Appends so many entries, to each phase in its turn, and closes.
+    fn use_chunk(&mut self, entries: u32) {
+        let [hmac, ..] = rivals::HMACS;
+        let Left {
+            material, state, ..
+        } = self;
+        for number in 0..entries {
+            let phase = (number % PHASE_LIMIT as u32) as u8 + 1;
+            let answer = append(hmac, material, state, phase, &[number as u8]);
+            assert_eq!(answer.refusal, 0);
+        }
+        assert_eq!(close(hmac, material, state).refusal, 0);
+    }
+
+    fn length_bytes(&self) -> Vec<u8> {
+        let lengths = self.state.log_lengths.iter();
+        lengths.flat_map(|length| length.to_le_bytes()).collect()
+    }
+
+    fn audit(&self) -> u64 {
+        audit_raw(
+            black_box(&self.material.store),
+            &self.unused_store,
+            &self.material.log_memory,
+            &self.length_bytes(),
+            &self.material.seal_memory,
+        )
+    }
+
+    fn audit_by_model(&self, hmac: Hmac) -> u64 {
+        let presented = Presented {
+            device_store: black_box(&self.material.store),
+            auditor_store: &self.unused_store,
+            log_memory: &self.material.log_memory,
+            log_lengths: &[],
+            seal_file: &self.material.seal_memory,
+        };
+        audit_packed(hmac, &presented, &self.length_bytes())
+    }
+}
+
+/// Eight phases and chunks without a zero byte.
+fn unused_store(chunk_count: u32, ratchet: u32) -> Vec<u8> {
+    let mut store = vec![1, 1, 2, 3, 4, 5, 6, 7, 8, PHASE_LIMIT as u8];
+    store.extend(chunk_count.to_le_bytes());
+    store.extend(ratchet.to_le_bytes());
+    store.extend((0..chunk_count * 32).map(|index| (index * 7 % 255) as u8 + 1));
+    store
+}

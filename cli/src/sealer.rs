@@ -1,0 +1,68 @@
+//! What a cabinet does: open, append and close.
+
+use crate::{Refusal, State, append_raw, close_raw, open_raw};
+
+/// The sealing state of a device whose logs and seal file have these lengths.
+///
+/// `store` is the key store, `logs` the log memory of 8,192 bytes a phase,
+/// `lengths` one number for each phase, and `seal` the whole seal memory, of
+/// which `seal_length` bytes are in use. Nothing lent is written. The state
+/// stands at the first chunk that is not burned, offset 0.
+///
+/// Refused with 2 to 6. Open only when no chunk is half used, as after
+/// [`close`]: the keys left of a half used chunk are gone with its state.
+pub fn open(
+    store: &[u8],
+    logs: &[u8],
+    lengths: &[u32],
+    seal: &[u8],
+    seal_length: u64,
+) -> Result<State, Refusal> {
+    let mut state = State::default();
+    let answer = open_raw(&mut state, store, logs, lengths, seal, seal_length);
+    unpack(answer).map(|_| state)
+}
+
+/// Seals the data as one entry of its phase and answers the item's number.
+///
+/// The data, 1 to 512 bytes, go behind the phase's log, and one item of 50
+/// bytes goes behind the seal file. Where the item is the first of its chunk,
+/// the chunk is burned in the store. The state steps on to the next key; the
+/// key used can't be had from it any more.
+///
+/// Refused with 2, 3 and 6 to 11; then no byte of state, store, logs or seal
+/// memory changes.
+pub fn append(
+    state: &mut State,
+    store: &mut [u8],
+    logs: &mut [u8],
+    seal: &mut [u8],
+    phase: u8,
+    data: &[u8],
+) -> Result<u64, Refusal> {
+    unpack(append_raw(state, store, logs, seal, phase, data))
+}
+
+/// Uses up the keys left of a half used chunk with filler items of 41 bytes
+/// and answers how many: none at offset 0.
+///
+/// Close before the state is lost, as when the power goes: an audit refuses a
+/// burned chunk whose keys have not all sealed an item.
+///
+/// Refused with 2, 3, 6 and 10; then no byte of state or seal memory changes.
+pub fn close(
+    state: &mut State,
+    store: &[u8],
+    logs: &[u8],
+    seal: &mut [u8],
+) -> Result<u64, Refusal> {
+    unpack(close_raw(state, store, logs, seal))
+}
+
+/// A call's count, or its refusal from the upper half of the answer.
+fn unpack(answer: u64) -> Result<u64, Refusal> {
+    match (answer >> 32) as u32 {
+        0 => Ok(answer),
+        refusal => Err(Refusal(refusal)),
+    }
+}

@@ -1,0 +1,164 @@
+//! The flags and operands of a command.
+
+use std::collections::BTreeMap;
+use std::ffi::{OsStr, OsString};
+use std::ops::RangeInclusive;
+use std::path::{Path, PathBuf};
+
+use super::failure::Failure;
+
+/// What a command understands.
+pub struct Syntax {
+    pub command: &'static str,
+    /// Flags that are followed by a value.
+    pub valued: &'static [&'static str],
+    /// Flags that stand alone.
+    pub switches: &'static [&'static str],
+    /// How many operands there may be.
+    pub operands: usize,
+}
+
+/// What a command was given.
+pub struct Arguments {
+    command: &'static str,
+    values: BTreeMap<&'static str, OsString>,
+    switches: Vec<&'static str>,
+    operands: Vec<PathBuf>,
+}
+
+pub fn is_help(argument: &OsString) -> bool {
+    argument == "--help" || argument == "-h"
+}
+
+impl Syntax {
+    /// Sorts the arguments. What stands behind `--` is no flag.
+    pub fn read(&self, arguments: &[OsString]) -> Result<Arguments, Failure> {
+        let mut read = Arguments {
+            command: self.command,
+            values: BTreeMap::new(),
+            switches: Vec::new(),
+            operands: Vec::new(),
+        };
+        let mut rest = arguments.iter();
+        let mut flags_end = false;
+        while let Some(argument) = rest.next() {
+            if !flags_end && argument == "--" {
+                flags_end = true;
+            } else if !flags_end && is_flag(argument) {
+                self.read_flag(&mut read, argument, &mut rest)?;
+            } else {
+                self.read_operand(&mut read, argument)?;
+            }
+        }
+        Ok(read)
+    }
+
+    /// Takes `--flag value`, `--flag=value` or a switch.
+    fn read_flag<'a>(
+        &self,
+        read: &mut Arguments,
+        argument: &OsStr,
+        rest: &mut impl Iterator<Item = &'a OsString>,
+    ) -> Result<(), Failure> {
+        let (name, attached) = split(argument);
+        if let Some(switch) = known(self.switches, name).filter(|_| attached.is_none()) {
+            read.switches.push(switch);
+            return Ok(());
+        }
+        let Some(name) = known(self.valued, name) else {
+            return Err(self.wrong(format!("unknown flag '{}'", argument.display())));
+        };
+        let value = match attached {
+            Some(value) => Some(OsString::from(value)),
+            None => rest.next().filter(|next| !is_flag(next)).cloned(),
+        };
+        let Some(value) = value.filter(|value| !value.is_empty()) else {
+            return Err(self.wrong(format!("{name} needs a value")));
+        };
+        match read.values.insert(name, value) {
+            Some(_) => Err(self.wrong(format!("{name} is given twice"))),
+            None => Ok(()),
+        }
+    }
+
+    fn read_operand(&self, read: &mut Arguments, argument: &OsStr) -> Result<(), Failure> {
+        if read.operands.len() == self.operands {
+            return Err(self.wrong(format!("'{}' is too much", argument.display())));
+        }
+        read.operands.push(PathBuf::from(argument));
+        Ok(())
+    }
+
+    fn wrong(&self, message: String) -> Failure {
+        Failure::usage(Some(self.command), message)
+    }
+}
+
+/// A flag's name and the value behind its `=`. A value that is not UTF-8 has
+/// to stand alone.
+fn split(argument: &OsStr) -> (&str, Option<&str>) {
+    let text = argument.to_str().unwrap_or_default();
+    match text.split_once('=') {
+        Some((name, value)) => (name, Some(value)),
+        None => (text, None),
+    }
+}
+
+fn is_flag(argument: impl AsRef<OsStr>) -> bool {
+    let bytes = argument.as_ref().as_encoded_bytes();
+    bytes.len() > 1 && bytes[0] == b'-'
+}
+
+fn known(names: &[&'static str], name: &str) -> Option<&'static str> {
+    names.iter().find(|known| **known == name).copied()
+}
+
+impl Arguments {
+    pub fn has(&self, switch: &str) -> bool {
+        self.switches.contains(&switch)
+    }
+
+    pub fn operand(&self) -> Option<&Path> {
+        self.operands.first().map(PathBuf::as_path)
+    }
+
+    pub fn path(&self, flag: &str) -> Option<&Path> {
+        self.values.get(flag).map(Path::new)
+    }
+
+    pub fn required_path(&self, flag: &str) -> Result<&Path, Failure> {
+        self.required(flag).map(Path::new)
+    }
+
+    /// The flag's text; every value that is no path is ASCII.
+    pub fn required_text(&self, flag: &str) -> Result<&str, Failure> {
+        let value = self.required(flag)?;
+        value.to_str().ok_or_else(|| self.bad_value(flag, value))
+    }
+
+    /// The flag's decimal number, if it is in the range.
+    pub fn required_number(&self, flag: &str, range: RangeInclusive<u32>) -> Result<u32, Failure> {
+        let text = self.required_text(flag)?;
+        let digits = text.bytes().all(|byte| byte.is_ascii_digit());
+        let number = text.parse().ok().filter(|_| digits);
+        number
+            .filter(|number| range.contains(number))
+            .ok_or_else(|| {
+                let (low, high) = range.into_inner();
+                self.wrong(format!("{flag} {text}: a number from {low} to {high}"))
+            })
+    }
+
+    fn required(&self, flag: &str) -> Result<&OsString, Failure> {
+        let value = self.values.get(flag);
+        value.ok_or_else(|| self.wrong(format!("{flag} is missing")))
+    }
+
+    fn bad_value(&self, flag: &str, value: &OsStr) -> Failure {
+        self.wrong(format!("{flag} {}: not understood", value.display()))
+    }
+
+    pub fn wrong(&self, message: String) -> Failure {
+        Failure::usage(Some(self.command), message)
+    }
+}

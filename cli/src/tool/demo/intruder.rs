@@ -1,0 +1,120 @@
+//! What an intruder does to the material of the evening.
+
+use super::super::evidence::Evidence;
+use super::super::item::{Item, items};
+use super::super::store::LOG_CAPACITY;
+
+/// The item of 07:00 on the side road.
+pub const TARGET: usize = 22;
+
+/// Where the tens of the count stand in its line, "07:00 side road  82".
+const TENS_IN_LINE: usize = 17;
+const CHUNK_IN_ENTRY: std::ops::Range<usize> = 10..18;
+
+pub struct Act {
+    pub words: &'static str,
+    /// Alters the evening's material, with the noon's at hand.
+    pub alter: fn(&mut Evidence, &Evidence),
+}
+
+pub const ACTS: [Act; 9] = [
+    Act {
+        words: "alters a log byte: the side road's 82 of 07:00 becomes 12",
+        alter: alter_log,
+    },
+    Act {
+        words: "drops that entry's item, number 22, from the seal file",
+        alter: drop_item,
+    },
+    Act {
+        words: "exchanges the items 22 and 23",
+        alter: exchange_items,
+    },
+    Act {
+        words: "exchanges them and gives each the other's chunk and ratchet numbers",
+        alter: exchange_and_renumber,
+    },
+    Act {
+        words: "cuts the last 20 bytes off the seal file",
+        alter: cut_bytes,
+    },
+    Act {
+        words: "cuts the last item off the seal file",
+        alter: cut_item,
+    },
+    Act {
+        words: "puts back the logs, lengths and seal file of noon",
+        alter: put_back_logs,
+    },
+    Act {
+        words: "puts back the store of noon, copied then, under the evening's logs",
+        alter: put_back_store,
+    },
+    Act {
+        words: "puts back everything of noon, the copied store included",
+        alter: put_back_all,
+    },
+];
+
+/// The item of this number, which the evening's seal file has.
+fn item(evidence: &Evidence, number: usize) -> Option<Item> {
+    items(&evidence.seal).flatten().nth(number)
+}
+
+fn alter_log(evening: &mut Evidence, _: &Evidence) {
+    let area = item(evening, TARGET).and_then(|item| item.area);
+    if let Some(area) = area {
+        let log = LOG_CAPACITY * usize::from(area.phase - 1);
+        evening.logs[log + area.offset as usize + TENS_IN_LINE] = b'1';
+    }
+}
+
+pub fn drop_item(evening: &mut Evidence, _: &Evidence) {
+    if let Some(item) = item(evening, TARGET) {
+        evening.seal.drain(item.place);
+    }
+}
+
+/// Both are entries, so the second begins where the first ends.
+fn exchange_items(evening: &mut Evidence, _: &Evidence) {
+    if let Some(first) = item(evening, TARGET) {
+        let length = first.place.len();
+        let both = first.place.start..first.place.end + length;
+        evening.seal[both].rotate_left(length);
+    }
+}
+
+fn exchange_and_renumber(evening: &mut Evidence, noon: &Evidence) {
+    exchange_items(evening, noon);
+    if let Some(first) = item(evening, TARGET) {
+        let (before, after) = evening.seal.split_at_mut(first.place.end);
+        let one = &mut before[first.place.start..][CHUNK_IN_ENTRY];
+        one.swap_with_slice(&mut after[CHUNK_IN_ENTRY]);
+    }
+}
+
+fn cut_bytes(evening: &mut Evidence, _: &Evidence) {
+    let length = evening.seal.len().saturating_sub(20);
+    evening.seal.truncate(length);
+}
+
+fn cut_item(evening: &mut Evidence, _: &Evidence) {
+    if let Some(last) = items(&evening.seal).flatten().last() {
+        evening.seal.truncate(last.place.start);
+    }
+}
+
+fn put_back_logs(evening: &mut Evidence, noon: &Evidence) {
+    evening.logs = noon.logs.clone();
+    evening.lengths = noon.lengths.clone();
+    evening.seal = noon.seal.clone();
+}
+
+fn put_back_store(evening: &mut Evidence, noon: &Evidence) {
+    evening.device = noon.device.clone();
+}
+
+fn put_back_all(evening: &mut Evidence, noon: &Evidence) {
+    put_back_logs(evening, noon);
+    put_back_store(evening, noon);
+}

@@ -1,0 +1,105 @@
+//! A junction that counts traffic and seals the counts hour by hour.
+
+use pahyndoi::{Refusal, State, append, close, open, sha256};
+
+use super::super::evidence::Evidence;
+use super::super::store::{Header, LOG_CAPACITY, burned_at_front};
+
+/// What is counted in each phase, from phase 1 on.
+const PHASES: [&str; 3] = ["main road", "side road", "on foot"];
+
+pub const HEADER: Header = Header {
+    id: *b"junction",
+    phases: PHASES.len() as u8,
+    chunks: 8,
+    ratchet: 16,
+};
+
+/// The demo's keys are hashes of this and the chunk's number.
+pub const SEED: &str = "Pahyndoi's demo, not random";
+
+/// Enough for all items of the store, were they all entries.
+const SEAL_MEMORY: usize = 50 * 8 * 16;
+
+/// The main road's counts in the hours of the day.
+const HOURS: [u32; 24] = [
+    12, 8, 5, 4, 9, 31, 88, 164, 182, 121, 104, 110, 126, 118, 122, 141, 176, 193, 158, 109, 77,
+    58, 41, 24,
+];
+
+pub struct Junction {
+    auditor_store: Vec<u8>,
+    store: Vec<u8>,
+    logs: Vec<u8>,
+    seal: Vec<u8>,
+    state: State,
+}
+
+impl Junction {
+    /// With an unused store and empty logs.
+    pub fn new() -> Result<Junction, Refusal> {
+        let store = unused_store()?;
+        Ok(Junction {
+            auditor_store: store.clone(),
+            store,
+            logs: vec![0; LOG_CAPACITY * PHASES.len()],
+            seal: vec![0; SEAL_MEMORY],
+            state: State::default(),
+        })
+    }
+
+    /// Begins sealing, with the lengths reached.
+    pub fn open(&mut self) -> Result<(), Refusal> {
+        let lengths = &self.state.lengths[..PHASES.len()];
+        let seal_length = self.state.seal_length;
+        self.state = open(&self.store, &self.logs, lengths, &self.seal, seal_length)?;
+        Ok(())
+    }
+
+    /// Seals the counts of one hour and answers how many there are.
+    pub fn count(&mut self, hour: usize) -> Result<usize, Refusal> {
+        for (index, name) in PHASES.iter().enumerate() {
+            let count = HOURS[hour] / (1 + index as u32);
+            let line = format!("{hour:02}:00 {name} {count:>3}\n");
+            append(
+                &mut self.state,
+                &mut self.store,
+                &mut self.logs,
+                &mut self.seal,
+                1 + index as u8,
+                line.as_bytes(),
+            )?;
+        }
+        Ok(PHASES.len())
+    }
+
+    /// Uses up the chunk and answers the number of fillers.
+    pub fn close(&mut self) -> Result<u64, Refusal> {
+        close(&mut self.state, &self.store, &self.logs, &mut self.seal)
+    }
+
+    pub fn burned(&self) -> usize {
+        burned_at_front(&self.store)
+    }
+
+    /// What an auditor is presented with.
+    pub fn evidence(&self) -> Evidence {
+        let lengths = self.state.lengths[..PHASES.len()].iter();
+        Evidence {
+            device: self.store.clone(),
+            auditor: self.auditor_store.clone(),
+            logs: self.logs.clone(),
+            lengths: lengths.flat_map(|length| length.to_le_bytes()).collect(),
+            seal: self.seal[..self.state.seal_length as usize].to_vec(),
+        }
+    }
+}
+
+fn unused_store() -> Result<Vec<u8>, Refusal> {
+    let mut store = HEADER.to_bytes();
+    for number in 0..HEADER.chunks {
+        let message = [SEED.as_bytes(), &number.to_le_bytes()].concat();
+        store.extend(sha256(&message)?);
+    }
+    Ok(store)
+}

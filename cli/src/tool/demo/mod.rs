@@ -1,0 +1,162 @@
+//! `pahyndoi demo`: a junction's day, its audit, and an intruder.
+
+mod intruder;
+mod junction;
+
+use std::ffi::OsString;
+use std::fs;
+use std::io::Write;
+use std::ops::Range;
+use std::path::Path;
+
+use pahyndoi::Refusal;
+
+use self::intruder::{ACTS, TARGET, drop_item};
+use self::junction::{HEADER, Junction, SEED};
+use super::Status;
+use super::arguments::Syntax;
+use super::coverage::Coverage;
+use super::evidence::Evidence;
+use super::failure::Failure;
+use super::picture;
+use super::store::LOG_CAPACITY;
+use super::text::{counted, hexadecimal, wrapped};
+use super::verdict::Verdict;
+
+const SYNTAX: Syntax = Syntax {
+    command: "demo",
+    valued: &["--out"],
+    switches: &[],
+    operands: 0,
+};
+
+const LIMIT: &str = "\
+The last one passes: a copy of the store from noon shows chunks that the \
+controller has burned since, and the seals rest on nobody having those. The \
+count alone tells it from the evening's.";
+
+pub fn run(arguments: &[OsString], out: &mut dyn Write) -> Result<Status, Failure> {
+    let arguments = SYNTAX.read(arguments)?;
+    let mut junction = Junction::new().map_err(refused)?;
+    writeln!(out, "A junction's day, sealed and audited\n")?;
+    keys(out)?;
+    writeln!(out, "\n2. A day is sealed\n")?;
+    half_day(&mut junction, 0..12, out)?;
+    let noon = junction.evidence();
+    half_day(&mut junction, 12..24, out)?;
+    let evening = junction.evidence();
+    log_lines(&evening, out)?;
+    audit(&evening, out)?;
+    intruder(&evening, &noon, out)?;
+    if let Some(folder) = arguments.path("--out") {
+        write_folder(&evening, folder, out)?;
+    }
+    Ok(Status::Done)
+}
+
+/// No call of the demo is refused; if one were, this would name it.
+fn refused(refusal: Refusal) -> Failure {
+    Failure::File(format!("a call of the demo was {refusal}"))
+}
+
+fn paragraph(out: &mut dyn Write, text: &str) -> Result<(), Failure> {
+    Ok(out.write_all(wrapped("   ", text).as_bytes())?)
+}
+
+fn keys(out: &mut dyn Write) -> Result<(), Failure> {
+    writeln!(out, "1. A key store is made\n")?;
+    let text = format!(
+        "Junction {}: {}, {} of 32 bytes, {} keys from each, so {} can be sealed. The \
+         controller gets one copy of the store, the auditor keeps another.",
+        hexadecimal(&HEADER.id),
+        counted(usize::from(HEADER.phases), "phase"),
+        counted(HEADER.chunks as usize, "chunk"),
+        HEADER.ratchet,
+        counted(HEADER.keys_of(HEADER.chunks as usize), "item"),
+    );
+    paragraph(out, &text)?;
+    let warning = format!(
+        "THESE KEYS ARE NOT RANDOM: they are SHA-256 digests of the text \"{SEED}\" and the \
+         chunk's number. Never use them."
+    );
+    paragraph(out, &warning)
+}
+
+/// Opens, seals the hours' counts and closes.
+fn half_day(
+    junction: &mut Junction,
+    hours: Range<usize>,
+    out: &mut dyn Write,
+) -> Result<(), Failure> {
+    let (from, to) = (hours.start, hours.end);
+    junction.open().map_err(refused)?;
+    let mut entries = 0;
+    for hour in hours {
+        entries += junction.count(hour).map_err(refused)?;
+    }
+    let fillers = junction.close().map_err(refused)?;
+    let text = format!(
+        "{from:02}:00 to {to}:00: open, {entries} appends, close with {}; {} burned.",
+        counted(fillers as usize, "filler"),
+        counted(junction.burned(), "chunk"),
+    );
+    paragraph(out, &text)
+}
+
+/// The side road's log from 06:00 to 08:00.
+fn log_lines(evening: &Evidence, out: &mut dyn Write) -> Result<(), Failure> {
+    writeln!(out, "\n   From the log of phase 2:\n")?;
+    let log = String::from_utf8_lossy(&evening.logs[LOG_CAPACITY..]);
+    for line in log.lines().skip(6).take(3) {
+        writeln!(out, "      {line}")?;
+    }
+    Ok(())
+}
+
+fn audit(evening: &Evidence, out: &mut dyn Write) -> Result<(), Failure> {
+    writeln!(out, "\n3. The material comes home and is audited\n")?;
+    let verdict = Verdict::of(&evening.material());
+    let coverage = Coverage::read(&evening.lengths, &evening.seal);
+    let picture = picture::draw(&coverage, None);
+    write!(out, "{}\n{picture}", verdict.words("   "))?;
+    Ok(())
+}
+
+/// Each act on a fresh copy of the evening's material, and its audit.
+fn intruder(evening: &Evidence, noon: &Evidence, out: &mut dyn Write) -> Result<(), Failure> {
+    writeln!(
+        out,
+        "\n4. An intruder takes the evening's material, each time afresh, and\n"
+    )?;
+    for (letter, act) in ('a'..).zip(&ACTS) {
+        let mut altered = evening.clone();
+        (act.alter)(&mut altered, noon);
+        let verdict = Verdict::of(&altered.material());
+        writeln!(out, "   {letter}. {}", act.words)?;
+        writeln!(out, "{}", verdict.words("      "))?;
+    }
+    paragraph(out, LIMIT)?;
+    gap(evening, noon, out)
+}
+
+/// The picture of a log whose item was dropped.
+fn gap(evening: &Evidence, noon: &Evidence, out: &mut dyn Write) -> Result<(), Failure> {
+    writeln!(
+        out,
+        "\n   What b. leaves of phase 2, the gap where item {TARGET} was:\n"
+    )?;
+    let mut altered = evening.clone();
+    drop_item(&mut altered, noon);
+    let coverage = Coverage::read(&altered.lengths, &altered.seal);
+    out.write_all(picture::draw_log(&coverage.logs[1], None).as_bytes())?;
+    Ok(())
+}
+
+fn write_folder(evening: &Evidence, folder: &Path, out: &mut dyn Write) -> Result<(), Failure> {
+    fs::create_dir_all(folder).map_err(|error| Failure::file(folder, error))?;
+    evening.write(folder)?;
+    let place = folder.display();
+    writeln!(out, "\nThe evening's files are in {place}.")?;
+    writeln!(out, "Try 'pahyndoi audit {place}'.")?;
+    Ok(())
+}

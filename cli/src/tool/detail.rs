@@ -1,0 +1,194 @@
+//! What a reader finds at the place of a refusal. It explains the audit's
+//! answer and never decides it.
+
+use pahyndoi::{Material, Rejected};
+
+use super::coverage::Coverage;
+use super::item::{Item, items, number_at};
+use super::store::{Header, LOG_CAPACITY, burned_at_front, chunks, is_burned};
+use super::text::{counted, grouped};
+
+/// None where there is nothing to add to the rule's own words.
+pub fn detail(material: &Material, rejected: &Rejected) -> Option<String> {
+    let header = match Header::read(material.device_store) {
+        Ok(header) => header,
+        Err(wrong) => return Some(format!("The device's store {wrong}.")),
+    };
+    match rejected.refusal.0 {
+        3 => Some(logs_detail(&header, material.logs)),
+        4 => stray_burned_chunk(material.device_store),
+        5 => Some(lengths_detail(&header, material.lengths)),
+        12 => auditor_detail(material.auditor_store),
+        13 => headers_detail(&header, material.auditor_store),
+        14 => differing_chunk(material),
+        15..=21 => item_detail(&header, material, rejected),
+        22 => Some(missing_detail(&header, material)),
+        23 => gap_detail(material),
+        _ => None,
+    }
+}
+
+fn logs_detail(header: &Header, logs: &[u8]) -> String {
+    let needed = LOG_CAPACITY * usize::from(header.phases);
+    format!(
+        "It has {}, and {} ask for {}.",
+        counted(logs.len(), "byte"),
+        counted(usize::from(header.phases), "phase"),
+        grouped(needed as u64)
+    )
+}
+
+fn stray_burned_chunk(store: &[u8]) -> Option<String> {
+    let first = burned_at_front(store);
+    let burned = chunks(store).skip(first).position(is_burned)?;
+    let burned = first + burned;
+    Some(format!(
+        "Chunk {burned} is burned and chunk {first} is not."
+    ))
+}
+
+fn lengths_detail(header: &Header, lengths: &[u8]) -> String {
+    let phases = usize::from(header.phases);
+    if lengths.len() != 4 * phases {
+        return format!(
+            "There are {}, and {} ask for {}.",
+            counted(lengths.len(), "byte"),
+            counted(phases, "phase"),
+            4 * phases
+        );
+    }
+    let numbers = lengths.chunks_exact(4).map(|four| number_at(four, 0));
+    let over = numbers
+        .enumerate()
+        .filter(|(_, length)| *length as usize > LOG_CAPACITY);
+    let over: Vec<String> = over
+        .map(|(index, length)| format!("phase {} has {}", index + 1, grouped(length.into())))
+        .collect();
+    format!("Too long: {}.", over.join(", "))
+}
+
+fn auditor_detail(store: &[u8]) -> Option<String> {
+    if let Err(wrong) = Header::read(store) {
+        return Some(format!("The auditor's store {wrong}."));
+    }
+    let burned = chunks(store).position(is_burned)?;
+    Some(format!("Chunk {burned} of the auditor's store is burned."))
+}
+
+fn headers_detail(device: &Header, auditor_store: &[u8]) -> Option<String> {
+    let auditor = Header::read(auditor_store).ok()?;
+    let fields = [
+        ("id", device.id != auditor.id),
+        ("phases", device.phases != auditor.phases),
+        ("chunk count", device.chunks != auditor.chunks),
+        ("ratchet", device.ratchet != auditor.ratchet),
+    ];
+    let differing = fields.iter().filter(|(_, differs)| *differs);
+    let names: Vec<&str> = differing.map(|(name, _)| *name).collect();
+    Some(format!("They differ in: {}.", names.join(", ")))
+}
+
+fn differing_chunk(material: &Material) -> Option<String> {
+    let burned = burned_at_front(material.device_store);
+    let pairs = chunks(material.device_store).zip(chunks(material.auditor_store));
+    let differing = pairs.skip(burned).position(|(one, other)| one != other)?;
+    let number = burned + differing;
+    Some(format!("P is {burned}, and chunk {number} differs."))
+}
+
+fn item_detail(header: &Header, material: &Material, rejected: &Rejected) -> Option<String> {
+    let number = rejected.item? as usize;
+    let item = match items(material.seal_file).nth(number)? {
+        Ok(item) => item,
+        Err(damage) => return Some(format!("Damaged from {damage}.")),
+    };
+    let more = match rejected.refusal.0 {
+        16 => keys_sentence(header, material),
+        17 => position_sentence(header, number),
+        18 => length_sentence(material, &item).unwrap_or_default(),
+        19 => sharing_sentence(material, &item).unwrap_or_default(),
+        _ => String::new(),
+    };
+    Some(
+        format!("{} {more}", item_sentence(&item))
+            .trim_end()
+            .to_string(),
+    )
+}
+
+fn item_sentence(item: &Item) -> String {
+    let Item { chunk, ratchet, .. } = item;
+    let kind = match item.area {
+        Some(area) => format!(
+            "an entry of phase {}, offset {}, {}",
+            area.phase,
+            grouped(area.offset.into()),
+            counted(area.length as usize, "byte"),
+        ),
+        None => "a filler".to_string(),
+    };
+    format!(
+        "At byte {} of the seal file stands {kind}, chunk {chunk}, ratchet offset {ratchet}.",
+        grouped(item.place.start as u64)
+    )
+}
+
+fn keys_sentence(header: &Header, material: &Material) -> String {
+    let burned = burned_at_front(material.device_store);
+    let (ratchet, keys) = (header.ratchet, header.keys_of(burned));
+    format!(
+        "P is {burned} and N is {ratchet}: {}.",
+        counted(keys, "item")
+    )
+}
+
+fn position_sentence(header: &Header, number: usize) -> String {
+    let ratchet = header.ratchet as usize;
+    let (chunk, offset) = (number / ratchet, number % ratchet);
+    format!("Item {number} ought to have chunk {chunk}, ratchet offset {offset}.")
+}
+
+fn length_sentence(material: &Material, item: &Item) -> Option<String> {
+    let index = usize::from(item.area?.phase).checked_sub(1)?;
+    let length = number_at(material.lengths.chunks_exact(4).nth(index)?, 0);
+    Some(format!("The phase's length is {}.", grouped(length.into())))
+}
+
+/// The first earlier item of the phase that shares a byte.
+fn sharing_sentence(material: &Material, item: &Item) -> Option<String> {
+    let area = item.area?;
+    let bytes = area.bytes()?;
+    let earlier = items(material.seal_file).take(item.number).flatten();
+    let mut sharing = earlier.filter(|earlier| {
+        let theirs = earlier.area.filter(|other| other.phase == area.phase);
+        let theirs = theirs.and_then(|other| other.bytes());
+        theirs.is_some_and(|theirs| theirs.start < bytes.end && bytes.start < theirs.end)
+    });
+    let other = sharing.next()?;
+    let theirs = other.area?;
+    Some(format!(
+        "Item {} has offset {}, {}.",
+        other.number,
+        grouped(theirs.offset.into()),
+        counted(theirs.length as usize, "byte")
+    ))
+}
+
+fn missing_detail(header: &Header, material: &Material) -> String {
+    let count = items(material.seal_file).flatten().count();
+    let sealed = counted(count, "item");
+    let keys = keys_sentence(header, material);
+    format!("The seal file has {sealed}. {keys}")
+}
+
+fn gap_detail(material: &Material) -> Option<String> {
+    let coverage = Coverage::read(material.lengths, material.seal_file);
+    let mut logs = coverage.logs.iter();
+    let log = logs.find(|log| log.covered() < log.bytes.len())?;
+    Some(format!(
+        "Phase {} is covered up to byte {} of {}.",
+        log.phase,
+        grouped(log.covered() as u64),
+        grouped(log.bytes.len() as u64)
+    ))
+}

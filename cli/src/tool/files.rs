@@ -1,0 +1,68 @@
+//! Reading and writing whole files.
+
+use std::fs::{self, File, OpenOptions};
+use std::io::{ErrorKind, Read, Write};
+use std::path::Path;
+
+use super::failure::Failure;
+use super::text::grouped;
+
+/// The longest file that is read, 64 MiB. The longest seal file that an audit
+/// can accept has 262,144 items of 50 bytes, a fifth of it.
+pub const READ_LIMIT: u64 = 64 << 20;
+
+/// All bytes of a file of at most [`READ_LIMIT`].
+pub fn read(path: &Path) -> Result<Vec<u8>, Failure> {
+    let metadata = fs::metadata(path).map_err(|error| cannot("read", path, &error))?;
+    if metadata.is_dir() {
+        return Err(Failure::file(path, "is a folder, not a file"));
+    }
+    let file = File::open(path).map_err(|error| cannot("read", path, &error))?;
+    let mut bytes = Vec::new();
+    // One byte past the limit tells a file that is too long.
+    file.take(READ_LIMIT + 1)
+        .read_to_end(&mut bytes)
+        .map_err(|error| cannot("read", path, &error))?;
+    match bytes.len() as u64 > READ_LIMIT {
+        true => Err(too_long(path)),
+        false => Ok(bytes),
+    }
+}
+
+fn too_long(path: &Path) -> Failure {
+    let limit = grouped(READ_LIMIT);
+    Failure::file(
+        path,
+        format!("has more than the {limit} bytes that are read"),
+    )
+}
+
+/// Writes a new file, readable to its owner alone: it may hold keys. An
+/// existing file is overwritten if `force` says so, and keeps its mode.
+pub fn write(path: &Path, bytes: &[u8], force: bool) -> Result<(), Failure> {
+    let mut options = OpenOptions::new();
+    options.write(true);
+    match force {
+        true => options.create(true).truncate(true),
+        false => options.create_new(true),
+    };
+    #[cfg(unix)]
+    std::os::unix::fs::OpenOptionsExt::mode(&mut options, 0o600);
+    let mut file = options
+        .open(path)
+        .map_err(|error| cannot("write", path, &error))?;
+    file.write_all(bytes)
+        .map_err(|error| cannot("write", path, &error))
+}
+
+pub fn is_there(path: &Path) -> Failure {
+    Failure::file(path, "is there already, and is left as it is")
+}
+
+fn cannot(what: &str, path: &Path, error: &std::io::Error) -> Failure {
+    match error.kind() {
+        ErrorKind::NotFound => Failure::file(path, "no such file or folder"),
+        ErrorKind::AlreadyExists => is_there(path),
+        _ => Failure::file(path, format!("cannot {what} it: {error}")),
+    }
+}

@@ -1,0 +1,87 @@
+//! The help of the tool and of each command.
+
+pub const TOOL: &str = "\
+Audits the sealed logs of traffic-signal controllers.
+
+Usage: pahyndoi COMMAND [ARGUMENTS]
+
+Commands:
+  demo    seal a junction's day, audit it, and let an intruder at it
+  audit   say whether the material in files is accepted, and if not, why
+  dump    list the items of a seal file
+  pack    make a key store of header and key bytes
+
+'pahyndoi COMMAND --help' says more about a command.
+
+Exit status: 0 done or accepted, 1 refused or damaged, 2 bad usage or a file
+that can't be read or written.
+";
+
+pub const DEMO: &str = "\
+Seals a junction's day of counts through the proved library and audits it;
+then an intruder alters the material in several ways, and each is audited.
+The demo's keys come from a fixed seed: they are not random.
+
+Usage: pahyndoi demo [--out FOLDER]
+
+  --out FOLDER    also write the untouched material into FOLDER, for 'audit'
+                  and 'dump'; files that are there already are left alone
+
+Exit status: 0, or 2 where something can't be written.
+";
+
+pub const AUDIT: &str = "\
+Audits what a controller brought home. The verdict is that of the proved audit.
+
+Usage: pahyndoi audit [FOLDER] [FLAGS]
+
+In FOLDER are looked for, and each flag names another file instead:
+  --device FILE   device.store, the controller's key store as it came home
+  --auditor FILE  auditor.store, the copy of the unused store
+  --logs FILE     logs.bin, the log memory: 8,192 bytes a phase
+  --lengths FILE  lengths.bin, the log lengths: 4 bytes a phase, little-endian
+  --seal FILE     seal.bin, the seal file
+
+  --json          print one JSON object: verdict, items (the count when
+                  accepted), rule, item, reason, detail, files
+  --no-picture    leave out the picture of what the items cover
+
+At most 64 MiB (67,108,864 bytes) of a file are read; a longer one is an error.
+The longest seal file that can be accepted has 13,107,200 bytes.
+
+Exit status: 0 accepted, 1 refused, 2 bad usage or a file that can't be read.
+";
+
+pub const DUMP: &str = "\
+Lists the items of a seal file: number, kind, phase, offset and data length in
+the phase's log, chunk number, ratchet offset, and the first bytes of the tag.
+No tag is checked; that takes an audit.
+
+Usage: pahyndoi dump FILE
+
+At most 64 MiB (67,108,864 bytes) are read; a longer file is an error.
+
+Exit status: 0 all is listed, 1 the file is damaged (listed up to there, with
+byte and cause), 2 bad usage or a file that can't be read.
+";
+
+pub const PACK: &str = "\
+Makes a key store of header and key bytes. Make two copies: one for the
+controller, which burns it in use, and one for the auditor, kept unused.
+
+Usage: pahyndoi pack --id HEX --phases P --chunks C --ratchet N
+                     --keys FILE --out FILE [--force]
+
+  --id HEX        8 bytes that name the controller, 16 hexadecimal digits
+  --phases P      1 to 8
+  --chunks C      1 to 1024
+  --ratchet N     keys made from each chunk, 1 to 256
+  --keys FILE     the chunks: 32 bytes each, C of them, none all zeros
+  --out FILE      where the store goes
+  --force         replace FILE if it is there
+
+No keys are made here. FILE's bytes must be random and secret, from a source
+that you trust; whoever knows them can forge seals.
+
+Exit status: 0 the store is written, 2 it is not.
+";

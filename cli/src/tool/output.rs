@@ -1,0 +1,68 @@
+//! Standard output that a reader may close early.
+
+use std::io::{self, BufWriter, ErrorKind, Write};
+
+/// Standard output. Once its reader has gone, as `head` goes, the rest is
+/// dropped: the exit status is still the command's.
+pub fn stdout() -> BufWriter<Pipe<io::Stdout>> {
+    BufWriter::new(Pipe {
+        writer: io::stdout(),
+    })
+}
+
+pub struct Pipe<W> {
+    writer: W,
+}
+
+impl<W: Write> Write for Pipe<W> {
+    fn write(&mut self, bytes: &[u8]) -> io::Result<usize> {
+        unless_closed(self.writer.write(bytes), bytes.len())
+    }
+
+    fn flush(&mut self) -> io::Result<()> {
+        unless_closed(self.writer.flush(), ())
+    }
+}
+
+/// The result, or this one where the reader has gone.
+fn unless_closed<T>(result: io::Result<T>, otherwise: T) -> io::Result<T> {
+    match result {
+        Err(error) if error.kind() == ErrorKind::BrokenPipe => Ok(otherwise),
+        result => result,
+    }
+}
+
+#[cfg(test)]
+mod tests {
+    use super::*;
+
+    struct Failing(ErrorKind);
+
+    impl Write for Failing {
+        fn write(&mut self, _: &[u8]) -> io::Result<usize> {
+            Err(self.0.into())
+        }
+
+        fn flush(&mut self) -> io::Result<()> {
+            Err(self.0.into())
+        }
+    }
+
+    fn write_to(kind: ErrorKind) -> io::Result<()> {
+        let mut pipe = Pipe {
+            writer: Failing(kind),
+        };
+        pipe.write_all(b"text")?;
+        pipe.flush()
+    }
+
+    #[test]
+    fn closed_pipe_is_no_error() {
+        assert!(write_to(ErrorKind::BrokenPipe).is_ok());
+    }
+
+    #[test]
+    fn full_disk_is_one() {
+        assert!(write_to(ErrorKind::StorageFull).is_err());
+    }
+}

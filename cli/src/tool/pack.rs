@@ -1,0 +1,87 @@
+//! `pahyndoi pack`: header and key bytes become a key store.
+
+use std::ffi::OsString;
+use std::io::Write;
+use std::path::Path;
+
+use super::Status;
+use super::arguments::{Arguments, Syntax};
+use super::failure::Failure;
+use super::files;
+use super::store::{CHUNK_LENGTH, CHUNKS, Header, PHASES, RATCHET, is_burned};
+use super::text::{counted, grouped, wrapped};
+
+const SYNTAX: Syntax = Syntax {
+    command: "pack",
+    valued: &[
+        "--id",
+        "--phases",
+        "--chunks",
+        "--ratchet",
+        "--keys",
+        "--out",
+    ],
+    switches: &["--force"],
+    operands: 0,
+};
+
+pub fn run(arguments: &[OsString], out: &mut dyn Write) -> Result<Status, Failure> {
+    let arguments = SYNTAX.read(arguments)?;
+    let header = header(&arguments)?;
+    let keys_path = arguments.required_path("--keys")?;
+    let store_path = arguments.required_path("--out")?;
+    let keys = files::read(keys_path)?;
+    check_keys(keys_path, &keys, header.chunks as usize)?;
+    let store = [header.to_bytes(), keys].concat();
+    files::write(store_path, &store, arguments.has("--force"))?;
+    let text = format!(
+        "{}: {}; {}, {} for {}.",
+        store_path.display(),
+        counted(store.len(), "byte"),
+        counted(usize::from(header.phases), "phase"),
+        counted(header.chunks as usize, "chunk"),
+        counted(header.keys_of(header.chunks as usize), "item"),
+    );
+    out.write_all(wrapped("", &text).as_bytes())?;
+    Ok(Status::Done)
+}
+
+fn header(arguments: &Arguments) -> Result<Header, Failure> {
+    Ok(Header {
+        id: id(arguments)?,
+        phases: arguments.required_number("--phases", PHASES)? as u8,
+        chunks: arguments.required_number("--chunks", CHUNKS)?,
+        ratchet: arguments.required_number("--ratchet", RATCHET)?,
+    })
+}
+
+/// The 8 bytes of 16 hexadecimal digits.
+fn id(arguments: &Arguments) -> Result<[u8; 8], Failure> {
+    let text = arguments.required_text("--id")?;
+    let digits = text.len() == 16 && text.bytes().all(|byte| byte.is_ascii_hexdigit());
+    let number = u64::from_str_radix(text, 16).ok().filter(|_| digits);
+    match number {
+        Some(number) => Ok(number.to_be_bytes()),
+        None => Err(arguments.wrong(format!("--id {text}: 16 hexadecimal digits"))),
+    }
+}
+
+fn check_keys(path: &Path, keys: &[u8], chunk_count: usize) -> Result<(), Failure> {
+    let needed = CHUNK_LENGTH * chunk_count;
+    if keys.len() != needed {
+        let reason = format!(
+            "has {}, and {} ask for {}",
+            counted(keys.len(), "byte"),
+            counted(chunk_count, "chunk"),
+            grouped(needed as u64)
+        );
+        return Err(Failure::file(path, reason));
+    }
+    match keys.chunks(CHUNK_LENGTH).position(is_burned) {
+        Some(number) => {
+            let reason = format!("chunk {number} is all zeros, as if it were burned");
+            Err(Failure::file(path, reason))
+        }
+        None => Ok(()),
+    }
+}

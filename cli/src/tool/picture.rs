@@ -1,0 +1,242 @@
+//! The picture of what items cover, for a terminal of 80 columns.
+
+use std::fmt::Write;
+use std::ops::Range;
+
+use super::coverage::{Byte, Coverage, Covered, Log};
+use super::text::{counted, grouped, wrapped};
+
+/// The cells of a bar. A full log has 128 bytes for each.
+const CELLS: usize = 64;
+const ITEMS_LISTED: usize = 12;
+const ITEMS_IN_A_ROW: usize = 3;
+const GAPS_LISTED: usize = 6;
+const OUTSIDE_LISTED: usize = 8;
+
+const LEGEND: &str = "\
+Coverage of the logs. Each cell of a bar stands for equally many bytes:
+a-z the item at its first byte, . no item, - an item on a part of it,
+* bytes that items share, ! the refused item.
+";
+
+/// Draws all logs, and tells what could not be drawn.
+pub fn draw(coverage: &Coverage, refused: Option<u32>) -> String {
+    let mut text = LEGEND.to_string();
+    if coverage.logs.is_empty() {
+        text += "Nothing can be drawn: no log has a length.\n";
+    }
+    for log in &coverage.logs {
+        text.push('\n');
+        text += &draw_log(log, refused);
+    }
+    text.push('\n');
+    text += &remarks(coverage);
+    text
+}
+
+/// A heading, the bar, the gaps and the first items of one log.
+pub fn draw_log(log: &Log, refused: Option<u32>) -> String {
+    let refused = refused.map(|number| number as usize);
+    let mut text = heading(log);
+    if !log.bytes.is_empty() {
+        text += &format!("  |{}|\n", bar(log, refused));
+    }
+    text += &gap_rows(&log.gaps());
+    text += &item_rows(&log.areas, refused);
+    text
+}
+
+fn heading(log: &Log) -> String {
+    format!(
+        "Phase {}: {}, {} of {} covered without a gap\n",
+        log.phase,
+        counted(log.areas.len(), "item"),
+        grouped(log.covered() as u64),
+        counted(log.bytes.len(), "byte"),
+    )
+}
+
+fn bar(log: &Log, refused: Option<usize>) -> String {
+    let length = log.bytes.len();
+    let cells = CELLS.min(length);
+    let cell = |index| index * length / cells..(index + 1) * length / cells;
+    (0..cells)
+        .map(|index| mark(log, cell(index), refused))
+        .collect()
+}
+
+/// The mark of a cell of one byte or more.
+fn mark(log: &Log, cell: Range<usize>, refused: Option<usize>) -> char {
+    let bytes = &log.bytes[cell];
+    let refused_byte = |byte: &Byte| match byte {
+        Byte::One(index) => Some(log.areas[*index].item) == refused,
+        _ => false,
+    };
+    let free = bytes.iter().filter(|byte| **byte == Byte::Free).count();
+    match bytes[0] {
+        _ if bytes.contains(&Byte::Shared) => '*',
+        _ if bytes.iter().any(refused_byte) => '!',
+        _ if free == bytes.len() => '.',
+        Byte::One(index) if free == 0 => letter(index),
+        _ => '-',
+    }
+}
+
+/// The letters run through the areas in order and start again after z.
+fn letter(index: usize) -> char {
+    char::from(b'a' + (index % 26) as u8)
+}
+
+fn gap_rows(gaps: &[Range<usize>]) -> String {
+    let mut text = String::new();
+    for gap in gaps.iter().take(GAPS_LISTED) {
+        let length = counted(gap.len(), "byte");
+        writeln!(text, "  gap: no item covers {} ({length})", span(gap)).expect("a string");
+    }
+    if gaps.len() > GAPS_LISTED {
+        text += &format!("  and {}\n", counted(gaps.len() - GAPS_LISTED, "more gap"));
+    }
+    text
+}
+
+fn span(bytes: &Range<usize>) -> String {
+    format!("{}-{}", bytes.start, bytes.end - 1)
+}
+
+/// The first items in order of place, and the refused one wherever it is.
+fn item_rows(areas: &[Covered], refused: Option<usize>) -> String {
+    let is_refused = |area: &Covered| Some(area.item) == refused;
+    let listed: Vec<String> = areas
+        .iter()
+        .enumerate()
+        .filter(|(index, area)| *index < ITEMS_LISTED || is_refused(area))
+        .map(|(index, area)| {
+            let mark = if is_refused(area) { '!' } else { letter(index) };
+            format!("{mark} item {}: {}", area.item, span(&area.bytes))
+        })
+        .collect();
+    let mut text = String::new();
+    for row in listed.chunks(ITEMS_IN_A_ROW) {
+        let cells: Vec<String> = row.iter().map(|cell| format!("{cell:<25}")).collect();
+        text += &format!("  {}\n", cells.join(" ").trim_end());
+    }
+    if areas.len() > listed.len() {
+        text += &format!(
+            "  and {}\n",
+            counted(areas.len() - listed.len(), "more item")
+        );
+    }
+    text
+}
+
+/// The fillers, the entries that are in no log, and the damage.
+fn remarks(coverage: &Coverage) -> String {
+    let mut text = format!("Besides these: {}.\n", counted(coverage.fillers, "filler"));
+    if !coverage.outside.is_empty() {
+        text += &wrapped("", &outside_sentence(&coverage.outside));
+    }
+    if let Some(damage) = &coverage.damage {
+        text += &wrapped("", &format!("Damaged from {damage}."));
+    }
+    text
+}
+
+fn outside_sentence(outside: &[usize]) -> String {
+    let listed = outside.iter().take(OUTSIDE_LISTED).map(usize::to_string);
+    let listed: Vec<String> = listed.collect();
+    let more = match outside.len() > OUTSIDE_LISTED {
+        true => ", ...",
+        false => "",
+    };
+    format!(
+        "Not drawn, with areas that lie in no log: {} ({}{more}).",
+        counted(outside.len(), "item"),
+        listed.join(", ")
+    )
+}
+
+#[cfg(test)]
+mod tests {
+    use super::super::coverage::tests::{lengths, seal_file};
+    use super::*;
+
+    fn log_picture(length: u32, areas: &[(u8, u32, u32)], refused: Option<u32>) -> String {
+        let coverage = Coverage::read(&lengths(&[length]), &seal_file(areas));
+        draw_log(&coverage.logs[0], refused)
+    }
+
+    #[test]
+    fn short_log_has_a_cell_for_each_byte() {
+        let picture = log_picture(10, &[(1, 0, 4), (1, 4, 6)], None);
+        let expected = "\
+Phase 1: 2 items, 10 of 10 bytes covered without a gap
+  |aaaabbbbbb|
+  a item 0: 0-3             b item 1: 4-9
+";
+        assert_eq!(picture, expected);
+    }
+
+    #[test]
+    fn gap_is_drawn_and_named() {
+        let picture = log_picture(12, &[(1, 0, 4), (1, 9, 3)], None);
+        let expected = "\
+Phase 1: 2 items, 4 of 12 bytes covered without a gap
+  |aaaa.....bbb|
+  gap: no item covers 4-8 (5 bytes)
+  a item 0: 0-3             b item 1: 9-11
+";
+        assert_eq!(picture, expected);
+    }
+
+    #[test]
+    fn gap_of_one_byte_shows_in_a_full_log() {
+        let mut areas: Vec<_> = (0..16).map(|index| (1, index * 512, 512)).collect();
+        areas[5].2 = 511;
+        let picture = log_picture(8192, &areas, None);
+        let bar = "aaaabbbbccccddddeeeefff-gggghhhhiiiijjjjkkkkllllmmmmnnnnoooopppp";
+        assert!(picture.contains(&format!("|{bar}|")), "{picture}");
+        assert!(picture.contains("gap: no item covers 3071-3071 (1 byte)"));
+    }
+
+    #[test]
+    fn shared_and_refused_bytes_are_marked() {
+        let areas = [(1, 0, 4), (1, 3, 3), (1, 6, 2)];
+        let picture = log_picture(8, &areas, Some(2));
+        assert!(picture.contains("|aaa*bb!!|"), "{picture}");
+        assert!(picture.contains("! item 2: 6-7"));
+    }
+
+    #[test]
+    fn refused_item_is_listed_wherever_it_is() {
+        let areas: Vec<_> = (0..40).map(|index| (1, index, 1)).collect();
+        let picture = log_picture(40, &areas, Some(33));
+        assert!(picture.contains("! item 33: 33-33"), "{picture}");
+        assert!(picture.contains("and 27 more items"), "{picture}");
+    }
+
+    #[test]
+    fn empty_log_has_no_bar() {
+        let picture = log_picture(0, &[], None);
+        let expected = "Phase 1: 0 items, 0 of 0 bytes covered without a gap\n";
+        assert_eq!(picture, expected);
+    }
+
+    #[test]
+    fn everything_fits_80_columns() {
+        let entry = |index: u32| ((index % 9) as u8, index * 37 % 8192, index % 600);
+        let areas: Vec<_> = (0..20_000).map(entry).collect();
+        let mut seal = seal_file(&areas);
+        seal.push(9);
+        let coverage = Coverage::read(&lengths(&[8192; 8]), &seal);
+        let picture = draw(&coverage, Some(19_999));
+        assert!(picture.lines().all(|line| line.len() <= 80), "{picture}");
+        assert!(picture.contains("Not drawn"), "{picture}");
+        assert!(picture.contains("Damaged from item 20000"), "{picture}");
+    }
+
+    #[test]
+    fn no_lengths_give_no_bars() {
+        let picture = draw(&Coverage::read(&[1, 2], &seal_file(&[(1, 0, 1)])), None);
+        assert!(picture.contains("Nothing can be drawn"), "{picture}");
+    }
+}

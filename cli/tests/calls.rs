@@ -1,0 +1,137 @@
+//! The calls that answer a result: counts, refusals and what they leave.
+
+use pahyndoi::{Material, Refusal, Rejected, State, append, audit, close, open};
+
+const LOG_CAPACITY: usize = 8192;
+
+/// A device with one phase, one chunk and two keys from it.
+struct Device {
+    store: Vec<u8>,
+    logs: Vec<u8>,
+    seal: Vec<u8>,
+    state: State,
+}
+
+fn unused_store() -> Vec<u8> {
+    let header = [1, 1, 2, 3, 4, 5, 6, 7, 8, 1, 1, 0, 0, 0, 2, 0, 0, 0];
+    [&header[..], &[7; 32]].concat()
+}
+
+impl Device {
+    fn new(seal_memory: usize) -> Device {
+        let mut device = Device {
+            store: unused_store(),
+            logs: vec![0; LOG_CAPACITY],
+            seal: vec![0; seal_memory],
+            state: State::default(),
+        };
+        device.state = device.open(&[0], 0).expect("an unused store opens");
+        device
+    }
+
+    fn open(&self, lengths: &[u32], seal_length: u64) -> Result<State, Refusal> {
+        open(&self.store, &self.logs, lengths, &self.seal, seal_length)
+    }
+
+    fn append(&mut self, phase: u8, data: &[u8]) -> Result<u64, Refusal> {
+        let Device {
+            store,
+            logs,
+            seal,
+            state,
+        } = self;
+        append(state, store, logs, seal, phase, data)
+    }
+
+    fn close(&mut self) -> Result<u64, Refusal> {
+        close(&mut self.state, &self.store, &self.logs, &mut self.seal)
+    }
+
+    fn audit(&self) -> Result<u64, Rejected> {
+        audit(&Material {
+            device_store: &self.store,
+            auditor_store: &unused_store(),
+            logs: &self.logs,
+            lengths: &self.state.lengths[0].to_le_bytes(),
+            seal_file: &self.seal[..self.state.seal_length as usize],
+        })
+    }
+}
+
+#[test]
+fn counts() {
+    let mut device = Device::new(200);
+    assert_eq!(device.audit(), Ok(0));
+    assert_eq!(device.append(1, b"first"), Ok(0));
+    assert_eq!(device.close(), Ok(1));
+    assert_eq!(device.close(), Ok(0));
+    assert_eq!(device.audit(), Ok(2));
+}
+
+#[test]
+fn item_numbers_count_on() {
+    let mut device = Device::new(200);
+    assert_eq!(device.append(1, b"first"), Ok(0));
+    assert_eq!(device.append(1, b"second"), Ok(1));
+    assert_eq!(device.append(1, b"third"), Err(Refusal(11)));
+    assert_eq!(device.audit(), Ok(2));
+}
+
+#[test]
+fn refused_opens() {
+    let mut device = Device::new(200);
+    assert_eq!(device.open(&[], 0), Err(Refusal(5)));
+    assert_eq!(device.open(&[8193], 0), Err(Refusal(5)));
+    assert_eq!(device.open(&[0], 201), Err(Refusal(6)));
+    device.logs.pop();
+    assert_eq!(device.open(&[0], 0), Err(Refusal(3)));
+    device.store.pop();
+    assert_eq!(device.open(&[0], 0), Err(Refusal(2)));
+}
+
+#[test]
+fn refused_appends_change_nothing() {
+    let mut device = Device::new(60);
+    let before = (device.state, device.store.clone());
+    assert_eq!(device.append(0, b"data"), Err(Refusal(7)));
+    assert_eq!(device.append(2, b"data"), Err(Refusal(7)));
+    assert_eq!(device.append(1, b""), Err(Refusal(8)));
+    assert_eq!(device.append(1, &[0; 513]), Err(Refusal(8)));
+    assert_eq!((device.state, device.store.clone()), before);
+    assert!(
+        device
+            .logs
+            .iter()
+            .chain(&device.seal)
+            .all(|byte| *byte == 0)
+    );
+    assert_eq!(device.append(1, &[1; 512]), Ok(0));
+    assert_eq!(device.append(1, b"data"), Err(Refusal(10)));
+    assert_eq!(device.close(), Err(Refusal(10)));
+}
+
+#[test]
+fn unfit_states_and_full_logs() {
+    let mut device = Device::new(200);
+    device.state.lengths[0] = 8190;
+    assert_eq!(device.append(1, b"abc"), Err(Refusal(9)));
+    device.state.offset = 1;
+    assert_eq!(device.append(1, b"a"), Err(Refusal(6)));
+    assert_eq!(device.close(), Err(Refusal(6)));
+}
+
+#[test]
+fn rejected_names_rule_and_item() {
+    let mut device = Device::new(200);
+    device.append(1, b"first").expect("a free key");
+    let rejected = device.audit().expect_err("a half used chunk");
+    assert_eq!((rejected.refusal, rejected.item), (Refusal(22), None));
+    device.close().expect("a free seal memory");
+    device.logs[0] ^= 1;
+    let rejected = device.audit().expect_err("an altered log");
+    assert_eq!((rejected.refusal, rejected.item), (Refusal(21), Some(0)));
+    assert_eq!(
+        rejected.to_string(),
+        "refused by rule 21 at item 0: the item's tag is not the HMAC of its message under its key"
+    );
+}

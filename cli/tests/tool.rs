@@ -1,0 +1,20 @@
+//! The auditor's tool, driven over files.
+
+#[path = "tool/audit.rs"]
+mod audit;
+#[path = "tool/demo.rs"]
+mod demo;
+#[path = "tool/dump.rs"]
+mod dump;
+#[path = "tool/folder.rs"]
+mod folder;
+#[path = "tool/material.rs"]
+mod material;
+#[path = "tool/pack.rs"]
+mod pack;
+#[path = "tool/refusals.rs"]
+mod refusals;
+#[path = "tool/run.rs"]
+mod run;
+#[path = "tool/usage.rs"]
+mod usage;

@@ -1,0 +1,39 @@
+//! `pahyndoi demo`.
+
+use crate::folder::Folder;
+use crate::run::{assert_narrow, run};
+
+const EXPECTED: &str = include_str!("../data/demo.txt");
+
+#[test]
+fn output_is_the_stored_one() {
+    let text = run(&["demo"]).ended(0);
+    assert_narrow(&text);
+    for (expected, line) in EXPECTED.lines().zip(text.lines()) {
+        assert_eq!(line, expected);
+    }
+    assert_eq!(text.len(), EXPECTED.len());
+}
+
+#[test]
+fn written_material_is_accepted() {
+    let folder = Folder::new("demo/out");
+    let place = folder.path("new/place");
+    let text = run(&["demo", "--out", &place]).ended(0);
+    assert!(text.starts_with(EXPECTED), "{text}");
+    let verdict = run(&["audit", &place, "--no-picture"]).ended(0);
+    assert_eq!(verdict, "ACCEPTED: 96 items.\n");
+    let table = run(&["dump", &folder.path("new/place/seal.bin")]).ended(0);
+    assert!(table.ends_with("96 items in 4,584 bytes.\n"), "{table}");
+}
+
+#[test]
+fn existing_files_are_left_alone() {
+    let folder = Folder::new("demo/existing");
+    folder.write("seal.bin", b"mine");
+    let run = run(&["demo", "--out", folder.whole()]);
+    assert_eq!(run.status, Some(2));
+    assert!(run.error.contains("seal.bin: is there already"), "{run:?}");
+    assert_eq!(folder.read("seal.bin"), b"mine");
+    assert!(!std::fs::exists(folder.path("device.store")).unwrap());
+}

@@ -1,0 +1,78 @@
+//! Material that a controller sealed, as files.
+
+use pahyndoi::{State, append, close, open};
+
+use crate::folder::Folder;
+
+const LOG_CAPACITY: usize = 8192;
+pub const ENTRY: usize = 50;
+pub const FILLER: usize = 41;
+
+#[derive(Clone)]
+pub struct Files {
+    pub device: Vec<u8>,
+    pub auditor: Vec<u8>,
+    pub logs: Vec<u8>,
+    pub lengths: Vec<u8>,
+    pub seal: Vec<u8>,
+}
+
+impl Files {
+    pub fn write(&self, folder: &Folder) {
+        folder.write("device.store", &self.device);
+        folder.write("auditor.store", &self.auditor);
+        folder.write("logs.bin", &self.logs);
+        folder.write("lengths.bin", &self.lengths);
+        folder.write("seal.bin", &self.seal);
+    }
+
+    pub fn set_lengths(&mut self, lengths: &[u32]) {
+        self.lengths = little_endian(lengths);
+    }
+}
+
+fn little_endian(numbers: &[u32]) -> Vec<u8> {
+    let bytes = numbers.iter().flat_map(|number| number.to_le_bytes());
+    bytes.collect()
+}
+
+/// A store with chunks of 1, of 2 and so on.
+pub fn store(phases: u8, chunks: u32, ratchet: u32) -> Vec<u8> {
+    let mut store = vec![1, 1, 2, 3, 4, 5, 6, 7, 8, phases];
+    store.extend(little_endian(&[chunks, ratchet]));
+    store.extend((1..=chunks).flat_map(|number| [number as u8; 32]));
+    store
+}
+
+/// Opened with these lengths, these phases' data appended, closed.
+pub fn sealed(unused: Vec<u8>, lengths: &[u32], entries: &[(u8, &[u8])]) -> Files {
+    let mut store = unused.clone();
+    let mut logs = vec![0; LOG_CAPACITY * lengths.len()];
+    let mut seal = vec![0; 4000];
+    let mut state: State = open(&store, &logs, lengths, &seal, 0).expect("open");
+    for (phase, data) in entries {
+        append(&mut state, &mut store, &mut logs, &mut seal, *phase, data).expect("append");
+    }
+    close(&mut state, &store, &logs, &mut seal).expect("close");
+    seal.truncate(state.seal_length as usize);
+    Files {
+        device: store,
+        auditor: unused,
+        logs,
+        lengths: little_endian(&state.lengths[..lengths.len()]),
+        seal,
+    }
+}
+
+/// Two phases, three chunks of three keys: five entries and a filler, so that
+/// two chunks are burned. Logs of 30 and 8 bytes.
+pub fn small() -> Files {
+    let entries: [(u8, &[u8]); 5] = [
+        (1, b"0123456789"),
+        (2, b"side"),
+        (1, b"abcdefghij"),
+        (2, b"road"),
+        (1, b"ABCDEFGHIJ"),
+    ];
+    sealed(store(2, 3, 3), &[0, 0], &entries)
+}

@@ -1,0 +1,142 @@
+//! `pahyndoi pack`.
+
+use std::fs;
+
+use crate::folder::Folder;
+use crate::run::{Run, run};
+
+const VALUES: [(&str, &str); 4] = [
+    ("--id", "0011223344556677"),
+    ("--phases", "3"),
+    ("--chunks", "4"),
+    ("--ratchet", "16"),
+];
+
+/// Packs 4 chunks, with one flag's value replaced and further arguments.
+fn pack(folder: &Folder, replaced: (&str, &str), more: &[&str]) -> Run {
+    let (keys, out) = (folder.path("keys.bin"), folder.path("auditor.store"));
+    let mut values = VALUES.to_vec();
+    values.extend([("--keys", &*keys), ("--out", &*out)]);
+    let mut arguments = vec!["pack"];
+    for (flag, value) in values {
+        let value = if flag == replaced.0 {
+            replaced.1
+        } else {
+            value
+        };
+        arguments.extend([flag, value]);
+    }
+    arguments.extend(more);
+    run(&arguments)
+}
+
+fn folder(name: &str, keys: &[u8]) -> Folder {
+    let folder = Folder::new(&format!("pack/{name}"));
+    folder.write("keys.bin", keys);
+    folder
+}
+
+const NONE: (&str, &str) = ("", "");
+
+#[test]
+fn store_is_header_and_keys() {
+    let keys: Vec<u8> = (0..128).collect();
+    let folder = folder("store", &keys);
+    let text = pack(&folder, NONE, &[]).ended(0);
+    let path = folder.path("auditor.store");
+    let words = text.split_whitespace().collect::<Vec<_>>().join(" ");
+    let expected = format!("{path}: 146 bytes; 3 phases, 4 chunks for 64 items.");
+    assert_eq!(words, expected);
+    let header = [
+        1, 0, 0x11, 0x22, 0x33, 0x44, 0x55, 0x66, 0x77, 3, 4, 0, 0, 0, 16, 0, 0, 0,
+    ];
+    assert_eq!(folder.read("auditor.store"), [&header[..], &keys].concat());
+}
+
+#[test]
+fn existing_store_is_left_unless_forced() {
+    let folder = folder("force", &[7; 128]);
+    folder.write("auditor.store", b"old");
+    let error = pack(&folder, NONE, &[]).failed();
+    assert!(error.contains("is there already"), "{error}");
+    assert_eq!(folder.read("auditor.store"), b"old");
+    pack(&folder, NONE, &["--force"]).ended(0);
+    assert_eq!(folder.read("auditor.store").len(), 146);
+}
+
+#[cfg(unix)]
+#[test]
+fn store_is_its_owners_alone() {
+    use std::os::unix::fs::PermissionsExt;
+    let folder = folder("mode", &[7; 128]);
+    pack(&folder, NONE, &[]).ended(0);
+    let metadata = fs::metadata(folder.path("auditor.store")).unwrap();
+    assert_eq!(metadata.permissions().mode() & 0o077, 0);
+}
+
+#[test]
+fn values_out_of_range() {
+    let folder = folder("range", &[7; 128]);
+    let wrong = [
+        ("--id", "00112233445566", "16 hexadecimal digits"),
+        ("--id", "001122334455667g", "16 hexadecimal digits"),
+        ("--id", "+011223344556677", "16 hexadecimal digits"),
+        ("--phases", "0", "a number from 1 to 8"),
+        ("--phases", "9", "a number from 1 to 8"),
+        ("--phases", "+3", "a number from 1 to 8"),
+        ("--phases", "three", "a number from 1 to 8"),
+        ("--chunks", "0", "a number from 1 to 1024"),
+        ("--chunks", "1025", "a number from 1 to 1024"),
+        ("--ratchet", "0", "a number from 1 to 256"),
+        ("--ratchet", "257", "a number from 1 to 256"),
+        (
+            "--ratchet",
+            "99999999999999999999",
+            "a number from 1 to 256",
+        ),
+    ];
+    for (flag, value, reason) in wrong {
+        let error = pack(&folder, (flag, value), &[]).failed();
+        let expected = format!("pahyndoi: {flag} {value}: {reason}\n");
+        assert!(error.starts_with(&expected), "{error}");
+        assert!(error.ends_with("Try 'pahyndoi pack --help'.\n"), "{error}");
+    }
+    assert!(!fs::exists(folder.path("auditor.store")).unwrap());
+}
+
+#[test]
+fn wrong_keys() {
+    let mut zeros = vec![7; 128];
+    zeros[64..96].fill(0);
+    let wrong = [
+        (vec![], "has 0 bytes, and 4 chunks ask for 128"),
+        (vec![7; 127], "has 127 bytes, and 4 chunks ask for 128"),
+        (vec![7; 129], "has 129 bytes, and 4 chunks ask for 128"),
+        (zeros, "chunk 2 is all zeros, as if it were burned"),
+    ];
+    for (keys, reason) in wrong {
+        let folder = folder("keys", &keys);
+        let error = pack(&folder, NONE, &[]).failed();
+        assert!(error.ends_with(&format!("keys.bin: {reason}\n")), "{error}");
+        assert!(!fs::exists(folder.path("auditor.store")).unwrap());
+    }
+}
+
+#[test]
+fn odd_outputs() {
+    let folder = folder("odd", &[7; 128]);
+    let nowhere = folder.path("nowhere/auditor.store");
+    let error = pack(&folder, ("--out", &nowhere), &[]).failed();
+    assert!(error.contains("no such file or folder"), "{error}");
+    let error = pack(&folder, ("--out", folder.whole()), &["--force"]).failed();
+    assert!(error.contains("cannot write it"), "{error}");
+}
+
+#[test]
+fn every_flag_is_needed() {
+    let error = run(&["pack", "--id", "0011223344556677"]).failed();
+    assert!(
+        error.starts_with("pahyndoi: --phases is missing\n"),
+        "{error}"
+    );
+}

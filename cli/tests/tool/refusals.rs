@@ -1,0 +1,191 @@
+//! Each refusal of the audit, in words.
+
+use crate::folder::Folder;
+use crate::material::{ENTRY, Files, sealed, small, store};
+use crate::run::{assert_narrow, joined};
+
+/// Audits the material after the change: the rule, the item and the words.
+fn refused(rule: u32, item: Option<u32>, words: &str, change: impl Fn(&mut Files)) {
+    let mut files = small();
+    change(&mut files);
+    refused_files(rule, item, words, &files);
+}
+
+fn refused_files(rule: u32, item: Option<u32>, words: &str, files: &Files) {
+    let folder = Folder::new(&format!("refusals/{rule}"));
+    files.write(&folder);
+    let at_item = item.map_or(String::new(), |item| format!(" at item {item}"));
+    let expected = format!("REFUSED by rule {rule}{at_item}: {words}");
+    let text = folder.audit(&["--no-picture"]).ended(1);
+    assert_eq!(joined(&text), expected);
+    assert_narrow(&folder.audit(&[]).ended(1));
+    let json = folder.audit(&["--json"]).ended(1);
+    let item = item.map_or("null".to_string(), |item| item.to_string());
+    let start = format!(r#"{{"verdict":"refused","items":null,"rule":{rule},"item":{item},"#);
+    assert!(json.starts_with(&start), "{json}");
+}
+
+#[test]
+fn rule_2() {
+    let words = "the store is under 18 bytes, has another kind, has a count outside its range or \
+                 has the wrong length. The device's store has 113 bytes, and its 3 chunks ask for \
+                 114.";
+    refused(2, None, words, |files| {
+        files.device.pop();
+    });
+}
+
+#[test]
+fn rule_3() {
+    let words = "the log memory has the wrong length. It has 16,385 bytes, and 2 phases ask for \
+                 16,384.";
+    refused(3, None, words, |files| files.logs.push(0));
+}
+
+#[test]
+fn rule_4() {
+    let words = "a burned chunk stands after one that is not burned. Chunk 1 is burned and chunk \
+                 0 is not.";
+    refused(4, None, words, |files| files.device[18] = 1);
+}
+
+#[test]
+fn rule_5() {
+    let rule = "the list of lengths has another number of entries than the phases, or one over \
+                8,192.";
+    let words = format!("{rule} There are 7 bytes, and 2 phases ask for 8.");
+    refused(5, None, &words, |files| {
+        files.lengths.pop();
+    });
+    let words = format!("{rule} Too long: phase 2 has 8,193.");
+    refused(5, None, &words, |files| files.set_lengths(&[30, 8193]));
+}
+
+#[test]
+fn rule_12() {
+    let rule = "the auditor's store is malformed (rule 2) or has a burned chunk.";
+    let words = format!("{rule} Chunk 0 of the auditor's store is burned.");
+    refused(12, None, &words, |files| {
+        files.auditor = files.device.clone();
+    });
+    let words = format!("{rule} The auditor's store has 0 bytes, and its header takes 18.");
+    refused(12, None, &words, |files| files.auditor.clear());
+}
+
+#[test]
+fn rule_13() {
+    let words = "the headers of the two stores differ. They differ in: id, ratchet.";
+    refused(13, None, words, |files| {
+        files.auditor[1] ^= 1;
+        files.auditor[14] += 1;
+    });
+}
+
+#[test]
+fn rule_14() {
+    let words = "a chunk from number P on differs between the two stores (P burned chunks). P is \
+                 2, and chunk 2 differs.";
+    refused(14, None, words, |files| files.device[113] ^= 1);
+}
+
+#[test]
+fn rule_15() {
+    let rule = "the item's kind is neither 2 nor 3, or the bytes end inside it.";
+    let words = format!(
+        "{rule} Damaged from item 1 at byte 50: its kind is 7, neither 2 (entry) nor 3 (filler)."
+    );
+    refused(15, Some(1), &words, |files| files.seal[ENTRY] = 7);
+    let words = format!(
+        "{rule} Damaged from item 5 at byte 250: it takes 41 bytes and the file ends after 40 of \
+         them."
+    );
+    refused(15, Some(5), &words, |files| {
+        files.seal.pop();
+    });
+}
+
+#[test]
+fn rule_16() {
+    let words = "the item's number is P x N or more (P burned chunks, N keys from each). At byte \
+                 291 of the seal file stands an entry of phase 1, offset 0, 10 bytes, chunk 0, \
+                 ratchet offset 0. P is 2 and N is 3: 6 items.";
+    refused(16, Some(6), words, |files| {
+        files.seal.extend_from_within(..ENTRY);
+    });
+}
+
+#[test]
+fn rule_17() {
+    let words = "the item's chunk number or ratchet offset is not that of its number. At byte 50 \
+                 of the seal file stands an entry of phase 1, offset 10, 10 bytes, chunk 0, \
+                 ratchet offset 2. Item 1 ought to have chunk 0, ratchet offset 1.";
+    refused(17, Some(1), words, |files| {
+        files.seal.drain(ENTRY..2 * ENTRY);
+    });
+}
+
+#[test]
+fn rule_18() {
+    let rule = "the item's phase or data length is out of range, or its area ends beyond that \
+                phase's length. At byte";
+    let words = format!(
+        "{rule} 200 of the seal file stands an entry of phase 1, offset 20, 10 bytes, chunk 1, \
+         ratchet offset 1. The phase's length is 29."
+    );
+    refused(18, Some(4), &words, |files| files.set_lengths(&[29, 8]));
+    let words = format!(
+        "{rule} 0 of the seal file stands an entry of phase 0, offset 0, 10 bytes, chunk 0, \
+         ratchet offset 0."
+    );
+    refused(18, Some(0), &words, |files| files.seal[1] = 0);
+}
+
+#[test]
+fn rule_19() {
+    let words = "the item's area shares a byte with an earlier item of the phase. At byte 100 of \
+                 the seal file stands an entry of phase 1, offset 9, 10 bytes, chunk 0, ratchet \
+                 offset 2. Item 0 has offset 0, 10 bytes.";
+    refused(19, Some(2), words, |files| files.seal[2 * ENTRY + 2] = 9);
+}
+
+/// Opened with bytes in the log that no item covers, all entries wait.
+#[test]
+fn rule_20() {
+    let entries = [(1, &b"x"[..]); 17];
+    let files = sealed(store(1, 1, 17), &[100], &entries);
+    let words = "after taking the item, over 16 items of its phase wait. At byte 800 of the seal \
+                 file stands an entry of phase 1, offset 116, 1 byte, chunk 0, ratchet offset 16.";
+    refused_files(20, Some(16), words, &files);
+}
+
+#[test]
+fn rule_21() {
+    let words = "the item's tag is not the HMAC of its message under its key. At byte 150 of the \
+                 seal file stands an entry of phase 2, offset 4, 4 bytes, chunk 1, ratchet offset \
+                 0.";
+    refused(21, Some(3), words, |files| files.logs[8192 + 4] ^= 1);
+}
+
+#[test]
+fn rule_22() {
+    let words = "after the last item there are fewer than P x N (P burned chunks, N keys from \
+                 each). The seal file has 5 items. P is 2 and N is 3: 6 items.";
+    refused(22, None, words, |files| files.seal.truncate(5 * ENTRY));
+}
+
+#[test]
+fn rule_23() {
+    let words = "a phase's covered bytes are fewer than its length. Phase 2 is covered up to byte \
+                 8 of 9.";
+    refused(23, None, words, |files| files.set_lengths(&[30, 9]));
+}
+
+/// Sixteen may wait; what then refuses is the gap.
+#[test]
+fn sixteen_waiting_items_pass() {
+    let folder = Folder::new("refusals/sixteen");
+    sealed(store(1, 1, 16), &[100], &[(1, &b"x"[..]); 16]).write(&folder);
+    let text = folder.audit(&[]).ended(1);
+    assert!(text.starts_with("REFUSED by rule 23:"), "{text}");
+    assert!(text.contains("gap: no item covers 0-99 (100 bytes)"));
+}

@@ -1,0 +1,85 @@
+//! Help, and arguments that are not understood.
+
+use crate::run::{assert_narrow, run};
+
+const COMMANDS: [&str; 4] = ["demo", "audit", "dump", "pack"];
+
+#[test]
+fn help_of_the_tool_names_every_command() {
+    for flag in ["--help", "-h"] {
+        let text = run(&[flag]).ended(0);
+        assert_narrow(&text);
+        for command in COMMANDS {
+            assert!(text.contains(&format!("\n  {command} ")), "{text}");
+        }
+    }
+}
+
+#[test]
+fn help_of_each_command_shows_its_usage() {
+    for command in COMMANDS {
+        let text = run(&[command, "--help"]).ended(0);
+        assert_narrow(&text);
+        assert!(
+            text.contains(&format!("\nUsage: pahyndoi {command}")),
+            "{text}"
+        );
+        assert!(text.contains("\nExit status: 0"), "{text}");
+    }
+}
+
+#[test]
+fn help_of_pack_says_who_makes_keys() {
+    let text = run(&["pack", "--help"]).ended(0);
+    assert!(text.contains("No keys are made here."), "{text}");
+}
+
+#[test]
+fn unknown_commands_and_flags() {
+    let none: [&str; 0] = [];
+    let hint = "Try 'pahyndoi --help'.\n";
+    let error = run(&none).failed();
+    assert_eq!(error, format!("pahyndoi: no command is given\n{hint}"));
+    let error = run(&["adit"]).failed();
+    assert_eq!(error, format!("pahyndoi: unknown command 'adit'\n{hint}"));
+    let error = run(&["audit", "--fast"]).failed();
+    let hint = "Try 'pahyndoi audit --help'.\n";
+    assert_eq!(error, format!("pahyndoi: unknown flag '--fast'\n{hint}"));
+}
+
+#[test]
+fn wrong_arguments() {
+    let wrong: [(&[&str], &str); 7] = [
+        (&["audit"], "give a folder, or a file with --device, "),
+        (&["audit", "a", "b"], "'b' is too much"),
+        (&["audit", "--seal"], "--seal needs a value"),
+        (&["audit", "--seal", "--json"], "--seal needs a value"),
+        (&["audit", "--seal="], "--seal needs a value"),
+        (&["audit", "--seal=a", "--seal=b"], "--seal is given twice"),
+        (&["audit", "--json=yes"], "unknown flag '--json=yes'"),
+    ];
+    for (arguments, reason) in wrong {
+        let error = run(arguments).failed();
+        assert!(error.starts_with(&format!("pahyndoi: {reason}")), "{error}");
+    }
+}
+
+#[test]
+fn behind_two_dashes_nothing_is_a_flag() {
+    let error = run(&["dump", "--", "--json"]).failed();
+    assert_eq!(error, "pahyndoi: --json: no such file or folder\n");
+}
+
+#[cfg(unix)]
+#[test]
+fn arguments_need_not_be_utf_8() {
+    use std::ffi::OsStr;
+    use std::os::unix::ffi::OsStrExt;
+    let odd = OsStr::from_bytes(b"\xff\xfe");
+    let error = run(&[odd]).failed();
+    assert!(error.starts_with("pahyndoi: unknown command '"), "{error}");
+    let error = run(&[OsStr::new("dump"), odd]).failed();
+    assert!(error.ends_with(": no such file or folder\n"), "{error}");
+    let error = run(&[OsStr::new("dump"), OsStr::from_bytes(b"--\xff")]).failed();
+    assert!(error.starts_with("pahyndoi: unknown flag '"), "{error}");
+}
