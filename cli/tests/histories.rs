@@ -1,0 +1,185 @@
+//! The library's open, append, close and audit compared with the model's on
+//! random cases: answers, states and every byte. `PAHYNDOI_SEED` and
+//! `PAHYNDOI_CASES` choose other cases than the usual ones.
+
+#[path = "histories/accounts.rs"]
+mod accounts;
+#[path = "histories/answer.rs"]
+mod answer;
+#[path = "histories/areas.rs"]
+mod areas;
+#[path = "histories/bits.rs"]
+mod bits;
+#[path = "histories/calls.rs"]
+mod calls;
+#[path = "histories/damage.rs"]
+mod damage;
+#[path = "histories/device.rs"]
+mod device;
+#[path = "histories/forgery.rs"]
+mod forgery;
+#[path = "histories/honest.rs"]
+mod honest;
+#[path = "histories/largest.rs"]
+mod largest;
+#[path = "histories/lent.rs"]
+mod lent;
+#[path = "histories/library.rs"]
+mod library;
+#[path = "histories/mishap.rs"]
+mod mishap;
+#[path = "histories/presentation.rs"]
+mod presentation;
+#[path = "histories/random.rs"]
+mod random;
+#[path = "histories/requests.rs"]
+mod requests;
+#[path = "histories/rows.rs"]
+mod rows;
+#[path = "histories/tally.rs"]
+mod tally;
+
+use answer::{is_accepted, split};
+use device::Device;
+use presentation::Presentation;
+use random::{Case, Run};
+use tally::Tally;
+
+#[test]
+fn calls_are_those_of_the_model() {
+    let run = Run::new(4000);
+    let mut tally = Tally::default();
+    for number in 0..run.cases {
+        make_calls(run.case(number), &mut tally);
+    }
+    tally.print();
+    if run.whole {
+        tally.assert_all_met("open", &[0, 2, 3, 4, 5, 6]);
+        tally.assert_all_met("append", &[0, 2, 3, 6, 7, 8, 9, 10, 11]);
+        tally.assert_all_met("close", &[0, 2, 3, 6, 10]);
+    }
+}
+
+/// Calls on one device. Mishaps and refused opens are mostly undone, so that
+/// the others do their work.
+fn make_calls(mut case: Case, tally: &mut Tally) {
+    let mut device = Device::random(&mut case.random);
+    for number in 0..case.random.between(5, 50) {
+        let random = &mut case.random;
+        let kept = device.clone();
+        let struck = random.once_in(4);
+        if struck {
+            mishap::strike(random, &mut device);
+        }
+        let call = requests::random_call(random, &device);
+        case.step = format!("call {number}: {}", calls::describe(&call));
+        let answer = calls::compare(case.random.up_to(8), &mut device, &call);
+        tally.note(calls::name(&call), answer);
+        let lost = struck || calls::lost_state(&call, answer);
+        if lost && !(device.is_whole() && case.random.once_in(4)) {
+            device = kept;
+        }
+    }
+}
+
+#[test]
+fn histories_are_those_of_their_account() {
+    let run = Run::new(2000);
+    let mut tally = Tally::default();
+    for number in 0..run.cases {
+        accounts::check_history(&mut run.case(number), &mut tally);
+    }
+    tally.print();
+    if run.whole {
+        tally.assert_all_met("open", &[0, 5, 6]);
+        tally.assert_all_met("append", &[0, 6, 7, 8, 9, 10, 11]);
+        tally.assert_all_met("close", &[0, 6, 10]);
+        tally.assert_all_met("audit", &[0, 22]);
+    }
+}
+
+/// The refusals of an audit, 0 for none.
+const AUDIT_REFUSALS: [u32; 17] = [
+    0, 2, 3, 4, 5, 12, 13, 14, 15, 16, 17, 18, 19, 20, 21, 22, 23,
+];
+
+#[test]
+fn audits_are_those_of_the_model() {
+    let run = Run::new(4000);
+    let mut tally = Tally::default();
+    let mut accepted = 0;
+    for number in 0..run.cases {
+        let mut case = run.case(number);
+        let answers = [audit_damaged(&mut case), audit_forged(&mut case)].concat();
+        accepted += answers
+            .iter()
+            .filter(|answer| is_accepted(**answer))
+            .count();
+        answers
+            .iter()
+            .for_each(|answer| tally.note("audit", *answer));
+    }
+    tally.print();
+    println!("accepted with a count above 0: {accepted}");
+    if run.whole {
+        tally.assert_all_met("audit", &AUDIT_REFUSALS);
+        assert!(accepted > run.cases, "few audits were accepted");
+    }
+}
+
+/// Audits honest material as it is, then with up to two damages.
+fn audit_damaged(case: &mut Case) -> Vec<u64> {
+    let (honest, other) = honest::random_pair(&mut case.random);
+    let mut answers = Vec::new();
+    for round in 0..6 {
+        case.step = format!("honest material, damage {round}");
+        let damages = case.random.up_to(2).min(round);
+        let damaged = damage::damaged(&mut case.random, &honest, &other, damages);
+        answers.push(damaged.compare(&mut case.random));
+    }
+    answers
+}
+
+fn audit_forged(case: &mut Case) -> Vec<u64> {
+    let mut answers = Vec::new();
+    for round in 0..3 {
+        case.step = format!("forgery {round}");
+        let forgery = forgery::random_forgery(&mut case.random);
+        answers.push(forgery.compare(&mut case.random));
+    }
+    answers
+}
+
+/// Forged entries whose answer is known beforehand.
+#[test]
+fn areas_are_taken_as_written() {
+    let mut case = Run::new(1).case(0);
+    for row in rows::rows() {
+        case.step = row.name.to_string();
+        let forgery = forgery::seal_areas(&mut case.random, &row.lengths, &row.areas);
+        let answer = forgery.compare(&mut case.random);
+        assert_eq!(split(answer), row.answer);
+    }
+}
+
+/// All bits of one small material, one after the other, and every length of
+/// each part of it.
+#[test]
+fn no_bit_and_no_length_can_be_changed() {
+    let mut case = Run::new(1).case(0);
+    let mut tally = Tally::default();
+    bits::check_changes(&mut case, &mut tally);
+    tally.print();
+}
+
+#[test]
+fn largest_material_is_audited_to_its_last_byte() {
+    let mut case = Run::new(1).case(0);
+    let mut largest: Presentation = largest::material(&mut case.random);
+    let items = largest::ITEMS as u32;
+    let answer = largest.compare(&mut case.random);
+    assert_eq!(split(answer), (0, items));
+    *largest.seal_file.last_mut().expect("a tag") ^= 1;
+    let answer = largest.compare(&mut case.random);
+    assert_eq!(split(answer), (21, items - 1));
+}

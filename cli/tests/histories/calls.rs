@@ -1,0 +1,91 @@
+//! One call by the library and by the model, compared.
+
+use pahyndoi::model::{self, Call, Material};
+
+use crate::answer::split;
+use crate::device::Device;
+use crate::library;
+
+pub fn name(call: &Call) -> &'static str {
+    match call {
+        Call::Open { .. } => "open",
+        Call::Append { .. } => "append",
+        Call::Close => "close",
+    }
+}
+
+/// The call without its data, which the case's number gives again.
+pub fn describe(call: &Call) -> String {
+    match call {
+        Call::Append { phase, data } => format!("append of {} bytes, phase {phase}", data.len()),
+        _ => format!("{call:?}"),
+    }
+}
+
+/// Makes the call by both and gives the packed answer. Fails where they differ
+/// in the answer, the state or any byte.
+pub fn compare(shift: usize, device: &mut Device, call: &Call) -> u64 {
+    let before = device.clone();
+    let (answer, after) = library::perform(shift, &before, call);
+    let expected = by_model(device, call);
+    assert_eq!(split(answer), split(expected), "answers: ours, model's");
+    assert_eq!(after.state, device.state, "states: ours, model's");
+    assert_same_material(&after.material, &device.material);
+    if split(answer).0 != 0 {
+        assert_refused(&after, &before, call);
+    }
+    answer
+}
+
+/// Whether a refused open has left a state of zeros.
+pub fn lost_state(call: &Call, answer: u64) -> bool {
+    matches!(call, Call::Open { .. }) && split(answer).0 != 0
+}
+
+fn by_model(device: &mut Device, call: &Call) -> u64 {
+    let Device { material, state } = device;
+    let (refusal, number) = match call {
+        Call::Open {
+            log_lengths,
+            seal_length,
+        } => {
+            let (refusal, opened) = model::open(material, log_lengths, *seal_length);
+            *state = opened;
+            (refusal, 0)
+        }
+        Call::Append { phase, data } => {
+            let answer = model::append(model::plain_hmac, material, state, *phase, data);
+            (answer.refusal, answer.number)
+        }
+        Call::Close => {
+            let answer = model::close(model::plain_hmac, material, state);
+            (answer.refusal, answer.number)
+        }
+    };
+    (u64::from(refusal) << 32) + u64::from(number)
+}
+
+pub fn assert_same_material(ours: &Material, models: &Material) {
+    assert_same_bytes("store", &ours.store, &models.store);
+    assert_same_bytes("log memory", &ours.log_memory, &models.log_memory);
+    assert_same_bytes("seal memory", &ours.seal_memory, &models.seal_memory);
+}
+
+fn assert_same_bytes(name: &str, ours: &[u8], models: &[u8]) {
+    assert_eq!(ours.len(), models.len(), "length of the {name}");
+    if ours != models {
+        let mut pairs = ours.iter().zip(models);
+        let place = pairs.position(|(one, other)| one != other);
+        panic!("the {name} differs from byte {place:?} on");
+    }
+}
+
+/// A refused call gives 0 and leaves all as it was; an open's state is zeros.
+fn assert_refused(after: &Device, before: &Device, call: &Call) {
+    assert_same_material(&after.material, &before.material);
+    let expected = match call {
+        Call::Open { .. } => model::State::default(),
+        _ => before.state,
+    };
+    assert_eq!(after.state, expected, "state after a refusal");
+}

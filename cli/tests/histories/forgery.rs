@@ -1,0 +1,184 @@
+//! Material made by somebody who knows every key: whatever the items say, the
+//! tags are right.
+
+use pahyndoi::model::{Head, LOG_CAPACITY, Position, chunk, next_key, plain_hmac, position};
+
+use crate::areas::{Area, random_areas, spoil};
+use crate::device::Shape;
+use crate::presentation::{Presentation, length_bytes};
+use crate::random::Random;
+
+pub fn random_forgery(random: &mut Random) -> Presentation {
+    let phases = random.pick(&[1, 1, 2, 2, 3, 8]);
+    let (mut lengths, mut areas) = random_areas(random, phases);
+    for _ in 0..random.pick(&[0, 0, 1, 1, 2]) {
+        spoil(random, &mut areas, phases);
+    }
+    if random.once_in(12) {
+        let length = &mut lengths[random.index(phases)];
+        *length = length.wrapping_add_signed(random.pick(&[1, -1, 40]));
+    }
+    forge(random, &lengths, areas)
+}
+
+/// Seals the areas, filled up to whole chunks; now and then the items are too
+/// many or too few, or one has another place.
+fn forge(random: &mut Random, lengths: &[u32], mut areas: Vec<Option<Area>>) -> Presentation {
+    let ratchet = match random.once_in(40) {
+        true => 256,
+        false => random.pick(&[1, 1, 2, 3, 5, 16]),
+    };
+    let mut burned = areas.len().div_ceil(ratchet);
+    areas.resize(burned * ratchet, None);
+    alter_count(random, &mut areas, &mut burned);
+    let mut heads = heads(&areas, ratchet as u32);
+    let claimed = alter_position(random, &mut heads, ratchet as u32);
+    let mut forger = Forger::new(random, burned, ratchet, lengths);
+    forger.seal_all(&heads, claimed);
+    forger.presentation
+}
+
+/// Seals the areas in their places, each chunk for one item.
+pub fn seal_areas(random: &mut Random, lengths: &[u32], areas: &[Option<Area>]) -> Presentation {
+    let mut forger = Forger::new(random, areas.len(), 1, lengths);
+    forger.seal_all(&heads(areas, 1), false);
+    forger.presentation
+}
+
+fn alter_count(random: &mut Random, areas: &mut Vec<Option<Area>>, burned: &mut usize) {
+    match random.up_to(19) {
+        0 => areas.push(None),
+        1 => drop(areas.pop()),
+        2 => *burned += 1,
+        3 => *burned = burned.saturating_sub(1),
+        4 => areas.truncate(random.up_to(areas.len())),
+        _ => (),
+    }
+}
+
+fn heads(areas: &[Option<Area>], ratchet: u32) -> Vec<Head> {
+    let places = (0..).map(|number| position(number, ratchet));
+    let head = |(area, position): (&Option<Area>, Position)| match *area {
+        None => Head::Filler { position },
+        Some((phase, offset, length)) => Head::Entry {
+            phase,
+            offset,
+            length,
+            position,
+        },
+    };
+    areas.iter().zip(places).map(head).collect()
+}
+
+/// Now and then gives one item another place: a neighbour's, its own with both
+/// numbers exchanged, or the byte offset of its chunk. Answers whether its key
+/// is that of the claimed place.
+fn alter_position(random: &mut Random, heads: &mut [Head], ratchet: u32) -> bool {
+    if heads.is_empty() || !random.once_in(8) {
+        return false;
+    }
+    let head = random.index(heads.len());
+    let (Head::Entry { position, .. } | Head::Filler { position }) = &mut heads[head];
+    let Position { chunk, offset } = *position;
+    *position = match random.up_to(5) {
+        0 => position.next(ratchet),
+        1 => Position {
+            chunk: offset,
+            offset: chunk,
+        },
+        2 => Position {
+            chunk: 18 + 32 * chunk,
+            offset,
+        },
+        3 => Position {
+            chunk: chunk | 1 << random.between(10, 31),
+            offset,
+        },
+        4 => Position {
+            chunk,
+            offset: offset | 1 << random.between(8, 31),
+        },
+        _ => Position {
+            chunk: chunk.wrapping_sub(1),
+            offset: offset + ratchet,
+        },
+    };
+    random.once_in(2)
+}
+
+struct Forger {
+    presentation: Presentation,
+    /// The key of each number that the store has one for.
+    keys: Vec<[u8; 32]>,
+    ratchet: u32,
+}
+
+impl Forger {
+    /// A store with this many burned chunks, sometimes with others behind them.
+    fn new(random: &mut Random, burned: usize, ratchet: usize, lengths: &[u32]) -> Forger {
+        let shape = Shape {
+            phases: lengths.len(),
+            chunk_count: (burned + random.up_to(2)).clamp(1, 1024),
+            ratchet,
+            seal_memory: 0,
+        };
+        let material = shape.material(random);
+        let mut device_store = material.store.clone();
+        device_store[18..18 + 32 * burned.min(shape.chunk_count)].fill(0);
+        Forger {
+            keys: all_keys(&material.store, &shape),
+            ratchet: ratchet as u32,
+            presentation: Presentation {
+                device_store,
+                auditor_store: material.store,
+                log_memory: material.log_memory,
+                length_bytes: length_bytes(lengths),
+                seal_file: Vec::new(),
+            },
+        }
+    }
+
+    /// Each item under the key of its number, or of the place it claims.
+    fn seal_all(&mut self, heads: &[Head], claimed: bool) {
+        for (number, head) in heads.iter().enumerate() {
+            let place = head.position();
+            let index = match claimed && place.offset < self.ratchet && place.chunk < 1024 {
+                true => place.item_number(self.ratchet) as usize,
+                false => number,
+            };
+            let key = self.keys.get(index).unwrap_or(&[0; 32]);
+            let item = head.seal(plain_hmac, key, self.data(head));
+            self.presentation.seal_file.extend(item.to_bytes());
+        }
+    }
+
+    /// The data in the area; none where it leaves the memory.
+    fn data(&self, head: &Head) -> &[u8] {
+        let Head::Entry {
+            phase,
+            offset,
+            length,
+            ..
+        } = *head
+        else {
+            return &[];
+        };
+        let start = LOG_CAPACITY * usize::from(phase).saturating_sub(1) + offset as usize;
+        let area = start..start + length as usize;
+        self.presentation.log_memory.get(area).unwrap_or_default()
+    }
+}
+
+fn all_keys(store: &[u8], shape: &Shape) -> Vec<[u8; 32]> {
+    let ratchet = shape.ratchet as u32;
+    let mut keys: Vec<[u8; 32]> = Vec::new();
+    for number in 0..shape.chunk_count as u32 * ratchet {
+        let place = position(number, ratchet);
+        let key = match (place.offset, keys.last()) {
+            (1.., Some(key)) => next_key(plain_hmac, key, place.offset, ratchet),
+            _ => chunk(store, place.chunk),
+        };
+        keys.push(key);
+    }
+    keys
+}
