@@ -2,6 +2,8 @@
 use mathlib.Core.Path.{_≡_, refl, sym, _∙_, ap, ap₂, subst}
 use mathlib.Core.List.{List, [], _∷_, _++_}
 use Prim.Native.Nat.{ℕ, zero, suc, _+_, _-_, _*_, _≤_, _<_}
+use Prim.Native.Nat.{compare}
+use native.Mathlib.Bridge.{le-by-compare, IsLe}
 use native.Mathlib.Nat.{add-suc, suc-add, zero-add, add-comm, mul-comm}
 use native.Mathlib.Numerals.{add-one}
 use native.Mathlib.Omega.{arith}
@@ -12,9 +14,13 @@ use Rattle.sha256.specs.Compression.{entries, slide, Reached}
 use Rattle.sha256.specs.declared.words.Words.{Words}
 use Rattle.sha256.specs.declared.compression.Working.{Working}
 
--- two lists with the same first entry and the same others
-pub same : {x y : ℕ} {xs ys : List ℕ} → x ≡ y → xs ≡ ys → x ∷ xs ≡ y ∷ ys
-same e f = ap₂ (λ z zs. z ∷ zs) e f
+-- the bytes of a block
+pub within : (i : ℕ) {n : ℕ} → IsLe (compare (suc i) 64) → n ≡ 64 → i < n
+within i l e = subst (λ n. i < n) (sym e) (le-by-compare (suc i) 64 l)
+
+-- a sum of words
+pub sum : {r x y a b : ℕ} → r ≡ x ⊞ y → x ≡ a → y ≡ b → r ≡ a ⊞ b
+sum e f g = e ∙ ap₂ _⊞_ f g
 
 -- the schedule's length, and that its words stay what they are
 pub schedule-length : (b : List ℕ) (n : ℕ) → length (schedule b n) ≡ 16 + n
@@ -71,7 +77,7 @@ pub rounds-same : (k w u : ℕ → ℕ) (n : ℕ) (s : Words) → ((t : ℕ) →
 unfolding rounds
 rounds-same k w u zero s h = refl
 rounds-same k w u (suc n) s h =
-    rw (rounds-same k w u n s (λ t l. h t (omega arith)), h n (omega arith))
+    ap₂ (λ x y. round x (k n) y) (rounds-same k w u n s (λ t l. h t (omega arith))) (h n (omega arith))
 
 -- one turn: the window slides, and a round is made with its last word
 pub turned : (k b : List ℕ) (s : Words) (n : ℕ) (v r : Working) → n < 48 → Reached k b s n v → r .w ≡ slide (v .w)

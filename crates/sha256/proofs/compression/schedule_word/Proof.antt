@@ -1,5 +1,7 @@
 -- `sha256::compression::schedule_word` meets its contract: the sums wrap as the standard's do.
+use mathlib.Core.Path.{refl}
 use borrow.Author.Needs.{needs}
+use Rattle.sha256.proofs.Rounds.{sum}
 use Rattle.sha256.proofs.compression.schedule_word.Statement.{statement}
 use Rattle.sha256.proofs.compression.schedule_word.Tie as tie
 
@@ -19,7 +21,9 @@ wrapping-add-u32-requires-3 : tie.Need-wrapping-add-u32-requires-3
 wrapping-add-u32-requires-3 c κs = search needs
 
 returns : tie.Need-returns
-returns c = cc
+returns c =
+    let first = sum (c .before .before .before .wrapping-add-u32 .ensures) (c .before .before .before .before .lower-sigma1 .ensures) refl in
+    sum (c .wrapping-add-u323 .ensures) (sum (c .before .wrapping-add-u322 .ensures) first (c .before .before .lower-sigma0 .ensures)) refl
 
 pub schedule-word-spec : {M : Type 1} → statement M
 schedule-word-spec =
