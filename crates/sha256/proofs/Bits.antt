@@ -173,12 +173,6 @@ rotr-rotr n m {x} h hx =
 pub rotr-nested : (n m : ℕ) {x y : ℕ} → n + m ≤ 32 → x < 2 ^ 32 → y < 2 ^ 32 → rotr n (x ⊕ rotr m y) ≡ rotr n x ⊕ rotr (n + m) y
 rotr-nested n m {x} {y} h hx hy = rotr-xor n (omega arith) hx (rotr-lt m hy) ∙ ap (λ (w : ℕ). rotr n x ⊕ w) (rotr-rotr n m h hy)
 
--- the forms that the sigmas are computed in
+-- the form that the sigmas are computed in
 pub two-rotations : (n m x w : ℕ) → n + m ≤ 32 → x < 2 ^ 32 → rotr n (x ⊕ rotr m x) ⊕ w ≡ rotr n x ⊕ rotr (n + m) x ⊕ w
 two-rotations n m x w h hx = ap (λ (v : ℕ). v ⊕ w) (rotr-nested n m h hx hx) ∙ xor-assoc (rotr n x) (rotr (n + m) x) w
-
-pub three-rotations : (n m k x : ℕ) → n + m + k ≤ 32 → x < 2 ^ 32
-    → rotr n (x ⊕ rotr m (x ⊕ rotr k x)) ≡ rotr n x ⊕ rotr (n + m) x ⊕ rotr (n + m + k) x
-three-rotations n m k x h hx =
-    rotr-nested n m (omega arith) hx (xor-lt 32 x (rotr k x) hx (rotr-lt k hx))
-    ∙ ap (λ (w : ℕ). rotr n x ⊕ w) (rotr-nested (n + m) k h hx hx)

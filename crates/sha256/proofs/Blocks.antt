@@ -7,7 +7,7 @@ use native.Mathlib.Nat.{add-zero, add-suc, mul-add, le-refl, mod-lt, one-le-pow,
 use lib.Dec.{lit<}
 use native.Mathlib.Omega.{arith}
 use lib.Arith.{digits-div, digits-mod, mod-mul}
-use lib.ListN.{length, take, drop, set, replicate, length-append, length-drop, length-replicate, drop-of-length-le, replicate-append-replicate, take-append-drop}
+use lib.ListN.{length, take, drop, set, replicate, length-append, length-drop, length-replicate, length-set, drop-of-length-le, replicate-append-replicate, take-append-drop}
 use lib.Seq.{take-append-le, drop-append-le, drop-drop, take-all, take-at, drop-at, take-append-seam, drop-append-add, set-append-left, set-append-seam, length-take-le}
 use Rattle.sha256.specs.Fips.{bigEndian, block, compress, hashed, pad, sha256, zeroBytes, digest, H₀}
 use Rattle.sha256.specs.State.{Held, Stands}
@@ -105,6 +105,9 @@ module _ (m p : List ℕ) where
   -- behind whole blocks
   pub over-whole : (s : Words) → length m % 64 ≡ 0 → over (over s m) p ≡ over s (m ++ p)
   over-whole s h = sym (over-append s ∙ ap (λ (l : List ℕ). over (over s m) (l ++ p)) (rest-none m h))
+
+  pub rest-whole : length m % 64 ≡ 0 → rest (m ++ p) ≡ rest p
+  rest-whole h = rest-append ∙ ap (λ (l : List ℕ). rest (l ++ p)) (rest-none m h)
 
   pub held-whole : {s : Words} {n : ℕ} {r : Sha256} → length m % 64 ≡ 0 → Held (over s m) p n r → Held s (m ++ p) n r
   held-whole {s} {n} {r} e h = held-append (subst (λ (l : List ℕ). Held (over s m) (l ++ p) n r) (sym (rest-none m e)) h)
@@ -256,6 +259,34 @@ module _ {s : Sha256} (m : List ℕ) (h : Stands s m) where
       ap₂ (λ (b : List ℕ) (i : ℕ). set b i 128 ++ put (replicate 64 0) 56 (bigEndian 8 (8 * s .length))) stands-block stands-place
       ∙ two-blocks (rest m) (8 * s .length) (omega (arith, length-rest m))
       ∙ ap₂ (λ (i : ℕ) (b : List ℕ). rest m ++ (128 ∷ replicate i 0 ++ b)) fill stands-bits
+
+-- the digest from a state that stands for m, the mark being set at i: the padding has room in the block, or it takes a block more
+module _ {s : Sha256} (m : List ℕ) (i : ℕ) (h : Stands s m) (place : i ≡ s .length % 64) where
+  pub sha256-one : i < 56 → digest (over (s .words) (set (put (s .block) 56 (bigEndian 8 (8 * s .length))) i 128)) ≡ sha256 m
+  sha256-one f =
+      ap (λ (j : ℕ). digest (over (s .words) (set (put (s .block) 56 (bigEndian 8 (8 * s .length))) j 128))) place
+      ∙ ap digest (ap₂ over (h .words) (stands-one m h (omega arith)))
+      ∙ sym (sha256-ending m)
+
+  pub sha256-two : 56 ≤ i
+      → digest (over (over (s .words) (set (s .block) i 128)) (put (replicate 64 0) 56 (bigEndian 8 (8 * s .length)))) ≡ sha256 m
+  sha256-two f =
+      let end = put (replicate 64 0) 56 (bigEndian 8 (8 * s .length)) in
+      let last = set (s .block) (s .length % 64) 128 in
+      let whole : length last % 64 ≡ 0 = omega (arith, length-set (s .block) (s .length % 64) 128, stands-length m h) in
+      ap₂ (λ (v : Words) (j : ℕ). digest (over (over v (set (s .block) j 128)) end)) (h .words) place
+      ∙ ap digest (over-whole last end (over H₀ m) whole ∙ ap (over (over H₀ m)) (stands-two m h (omega arith)))
+      ∙ sym (sha256-ending m)
+
+-- the state that holds the bytes after m's whole blocks
+pub stands-rest : {v : Words} {p : List ℕ} {k : ℕ} (m : List ℕ) → v ≡ over H₀ m → p ≡ rest m → k ≡ length m % 2 ^ 64
+    → Stands (record { words = v; block = put (replicate 64 0) 0 p; length = k }) m
+stands-rest {p = p} m e f g =
+    record {
+      words = e;
+      pending = put-filled [] p (omega (arith, ap length f, length-rest m)) ∙ ap filled f ∙ filled-rest m;
+      counted = g;
+    }
 
 -- 32 bytes behind a message of one block: the block that they and the padding fill
 pub sha256-with : {s : Sha256} (m q : List ℕ) → Stands s m → length m ≡ 64 → length q ≡ 32

@@ -149,7 +149,7 @@ fn word(b: &[u8], j: usize) -> u32
     ensures { λ r. ⌜ r ≡ Fips.word (now (b .entry)) j ⌝ }
 {
     let at = 4 * j;
-    wide(b[at]) * 16777216 + wide(b[at + 1]) * 65536 + wide(b[at + 2]) * 256 + wide(b[at + 3])
+    (wide(b[at]) * 256 + wide(b[at + 1])) * 65536 + (wide(b[at + 2]) * 256 + wide(b[at + 3]))
 }
 
 fn wide(x: u8) -> u32

@@ -34,6 +34,6 @@ pub fn sha256(message: &[u8]) -> Answer
     }
     Answer {
         outcome: Outcome::Done,
-        bytes: Sha256::new().update(message).finish(),
+        bytes: Sha256::new().finish_part(message),
     }
 }

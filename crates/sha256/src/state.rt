@@ -1,7 +1,7 @@
 // A hash state that takes a message part after part.
 ghost use mathlib.Core.Path.{_≡_};
 ghost use mathlib.Core.List.{List, [], _++_};
-ghost use Prim.Native.Nat.{ℕ, _+_, _*_, _≤_, _<_};
+ghost use Prim.Native.Nat.{ℕ, _+_, _*_, _/_, _%_, _^_, _≤_, _<_};
 ghost use lib.ListN.{length, take, drop};
 ghost use Rattle.sha256.specs.Fips as Fips;
 ghost use Rattle.sha256.specs.State.{Held, Stands};
@@ -104,6 +104,16 @@ impl Sha256 {
         digest(blocks(blocks(words, &last), &end))
     }
 
+    // From the state that stands for a message m of whole blocks, the digest of m followed by the part.
+    pub fn finish_part(self, part: &[u8]) -> [u8; 32]
+        ensures { λ r. ⌜ ((m : List ℕ) → Stands self m → length m % 64 ≡ 0 → r ≡ Fips.sha256 (m ++ now (part .entry))) ⌝ }
+    {
+        let count = std::num::wrapping_add_u64(self.length, part.len() as u64);
+        let words = self.words;
+        let at = part.len() / 64 * 64;
+        ended(blocks(words, part), &part[at..], count)
+    }
+
     // From the state that stands for a message m of one block, the digest of m followed by the part: what HMAC ends with, in one
     // block that is laid out here.
     pub fn finish_with(self, part: [u8; 32]) -> [u8; 32]
@@ -128,6 +138,41 @@ fn whole(words: Words, part: &[u8], length: u64) -> Sha256
         block: put([0; 64], 0, &part[at..]),
         length,
     }
+}
+
+// The digest of a message, from the hash value after its whole blocks, the bytes after them, and its length. The last block is laid
+// out here once, and nothing copies it.
+fn ended(words: Words, rest: &[u8], count: u64) -> [u8; 32]
+    requires { ⌜ length (now rest) < 64 ⌝ }
+    ensures { λ r. ⌜ ((m : List ℕ) → words ≡ Fips.hashed Fips.H₀ m (length m / 64) → now (rest .entry) ≡ drop (64 * (length m / 64)) m → count ≡ length m % 2 ^ 64 → r ≡ Fips.sha256 m) ⌝ }
+{
+    let n = rest.len();
+    if n < 56 {
+        let mut end = with_length(put([0; 64], 0, rest), count);
+        end[n] = 128;
+        return digest(blocks(words, &end));
+    }
+    let mut last = put([0; 64], 0, rest);
+    last[n] = 128;
+    let end = with_length([0; 64], count);
+    digest(blocks(blocks(words, &last), &end))
+}
+
+// The block with the length in bits as its last 8 bytes: written one by one, they become one store.
+fn with_length(block: [u8; 64], count: u64) -> [u8; 64]
+    ensures { λ r. ⌜ r ≡ take 56 block ++ Fips.bigEndian 8 (8 * count) ++ drop 64 block ⌝ }
+{
+    let bits = length_bytes(count);
+    let mut b = block;
+    b[56] = bits[0];
+    b[57] = bits[1];
+    b[58] = bits[2];
+    b[59] = bits[3];
+    b[60] = bits[4];
+    b[61] = bits[5];
+    b[62] = bits[6];
+    b[63] = bits[7];
+    b
 }
 
 // The block with the part written at a place.

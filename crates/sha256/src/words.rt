@@ -34,17 +34,17 @@ pub fn maj(x: u32, y: u32, z: u32) -> u32
     ((x ^ y) & (y ^ z)) ^ y
 }
 
-// The sums of rotations, each rotation shared by those after it.
+// The sums of rotations, one rotation shared by two terms: a third shared as well would make the rounds wait for one another.
 pub fn upper_sigma0(x: u32) -> u32
     ensures { λ r. ⌜ r ≡ Fips.Σ₀ x ⌝ }
 {
-    rotr(x ^ rotr(x ^ rotr(x, 9), 11), 2)
+    rotr(x ^ rotr(x, 11), 2) ^ rotr(x, 22)
 }
 
 pub fn upper_sigma1(x: u32) -> u32
     ensures { λ r. ⌜ r ≡ Fips.Σ₁ x ⌝ }
 {
-    rotr(x ^ rotr(x ^ rotr(x, 14), 5), 6)
+    rotr(x ^ rotr(x, 5), 6) ^ rotr(x, 25)
 }
 
 pub fn lower_sigma0(x: u32) -> u32

@@ -1,7 +1,7 @@
--- The new state stands for the empty message, so after `update` for the whole of it, of which `finish` gives the digest.
+-- The new state stands for the empty message, and the whole of the message is the part behind it.
 use borrow.Author.Needs.{needs}
 use borrow.Author.Tests.{le-leb, lt-leb}
-use mathlib.Core.Path.{_≡_, sym, ap, _∙_}
+use mathlib.Core.Path.{_≡_, refl, sym, ap, _∙_}
 use mathlib.Core.Bool.{Bool, true, false}
 use mathlib.Core.List.{[]}
 use denote.Ref.{now}
@@ -20,18 +20,15 @@ returns c =
 new-requires : tie.Need-new-requires
 new-requires c κs = search needs
 
-update-requires : tie.Need-update-requires
-update-requires c κs = search needs
-
-finish-requires : tie.Need-finish-requires
-finish-requires c κs = search needs
+finish-part-requires : tie.Need-finish-part-requires
+finish-part-requires c κs = search needs
 
 returns-2 : tie.Need-returns-2
 returns-2 c =
-    let m = now (c .before .before .before .before .before .args .message) in
-    let fits : within m ≡ true = le-leb (length m) lengthLimit (c .before .before .before .if1 .left) in
-    let stands = c .before .update .ensures [] (c .before .before .new .ensures) in
-    record { refusal = ap refusalIf (sym fits); bytes = c .finish .ensures m stands ∙ ap (λ (b : Bool). bytesIf b (sha256 m)) (sym fits) }
+    let m = now (c .before .before .before .before .args .message) in
+    let fits : within m ≡ true = le-leb (length m) lengthLimit (c .before .before .if1 .left) in
+    let hashed = c .finish-part .ensures [] (c .before .new .ensures) refl in
+    record { refusal = ap refusalIf (sym fits); bytes = hashed ∙ ap (λ (b : Bool). bytesIf b (sha256 m)) (sym fits) }
 
 pub sha256-spec : {M : Type 1} → statement M
-sha256-spec = tie.close (tie.spec returns new-requires update-requires finish-requires returns-2)
+sha256-spec = tie.close (tie.spec returns new-requires finish-part-requires returns-2)

@@ -1,8 +1,8 @@
--- ROTR passes through ⊕ and rotations add up: the amounts come to 2, 2 + 11 and 2 + 11 + 9.
+-- ROTR passes through ⊕ and rotations add up: rotr 2 (x ⊕ rotr 11 x) is rotr 2 x ⊕ rotr 13 x.
 use borrow.Author.Needs.{needs}
 use native.Mathlib.Omega.{arith}
-use Rattle.sha256.proofs.Bits.{three-rotations}
-use Rattle.sha256.specs.Fips.{Σ₀}
+use Rattle.sha256.proofs.Bits.{two-rotations}
+use Rattle.sha256.specs.Fips.{Σ₀, rotr}
 use Rattle.sha256.proofs.words.upper_sigma0.Statement.{statement}
 use Rattle.sha256.proofs.words.upper_sigma0.Tie as tie
 
@@ -19,7 +19,8 @@ returns : tie.Need-returns
 unfolding Σ₀
 returns c =
     let start = c .before .before .before in
-    cc (three-rotations 2 11 9 (start .args .x) (omega arith) (start .fits .x .fits))
+    let x = start .args .x in
+    cc (two-rotations 2 11 x (rotr 22 x) (omega arith) (start .fits .x .fits))
 
 pub upper-sigma0-spec : {M : Type 1} → statement M
 upper-sigma0-spec = tie.close (tie.spec rotr-requires rotr-requires-2 rotr-requires-3 returns)

@@ -1,14 +1,13 @@
--- The padding goes behind the bytes that the state holds (`sha256-ending`): the block has room for it if they are fewer than 56,
+-- The padding goes behind the bytes that the state holds (`sha256-one`, `sha256-two`): the block has room for it if they are fewer than 56,
 -- and else it takes a block more.
 use borrow.Author.Needs.{needs}
-use mathlib.Core.Path.{_≡_, sym, ap, ap₂, _∙_}
+use mathlib.Core.Path.{refl, ap, ap₂, _∙_}
 use mathlib.Core.List.{List}
-use Prim.Native.Nat.{ℕ, _*_, _%_}
+use Prim.Native.Nat.{ℕ, _%_}
 use native.Mathlib.Omega.{arith}
-use lib.ListN.{length, length-set, replicate, set}
-use Rattle.sha256.specs.Fips.{bigEndian, digest, H₀}
-use Rattle.sha256.specs.declared.words.Words.{Words}
-use Rattle.sha256.proofs.Blocks.{over, over-whole, put, sha256-ending, stands-length, stands-one, stands-two}
+use lib.ListN.{replicate, set}
+use Rattle.sha256.specs.Fips.{digest}
+use Rattle.sha256.proofs.Blocks.{over, put, sha256-one, sha256-two}
 use Rattle.sha256.proofs.state.Sha256.finish.Statement.{statement}
 use Rattle.sha256.proofs.state.Sha256.finish.Tie as tie
 
@@ -38,8 +37,8 @@ returns c m h =
     let self = c .before .before .before .before .before .before .before .before .before .before .args .self in
     let bits = c .before .before .before .before .before .before .before .before .length-bytes .ensures in
     let end = c .before .before .before .put .ensures ∙ ap (put (self .block) 56) bits in
-    let last = ap (λ (b : List ℕ). set b (self .length % 64) 128) end ∙ stands-one m h (omega arith) in
-    c .digest .ensures ∙ ap digest (c .before .blocks2 .ensures ∙ ap₂ over (h .words) last) ∙ sym (sha256-ending m)
+    let last = ap (λ (b : List ℕ). over (self .words) (set b (self .length % 64) 128)) end in
+    c .digest .ensures ∙ ap digest (c .before .blocks2 .ensures ∙ last) ∙ sha256-one m (self .length % 64) h refl (omega arith)
 
 array-write-last : tie.Need-array-write-last
 array-write-last c = search needs
@@ -69,16 +68,10 @@ returns-2 : tie.Need-returns-2
 returns-2 c m h =
     let self = c .before .before .before .before .before .before .before .before .before .before .before .before .args .self in
     let bits = c .before .before .before .before .before .before .before .before .before .before .length-bytes .ensures in
-    let last = set (self .block) (self .length % 64) 128 in
     let end = c .before .before .before .before .before .put2 .ensures ∙ ap (put (replicate 64 0) 56) bits in
-    let whole : length last % 64 ≡ 0 = omega (arith, length-set (self .block) (self .length % 64) 128, stands-length m h) in
     c .digest2 .ensures
-    ∙ ap digest
-    (c .before .blocks4 .ensures
-    ∙ ap₂ over (c .before .before .before .blocks3 .ensures ∙ ap (λ (s : Words). over s last) (h .words)) end
-    ∙ over-whole last (put (replicate 64 0) 56 (bigEndian 8 (8 * self .length))) (over H₀ m) whole
-    ∙ ap (over (over H₀ m)) (stands-two m h (omega arith)))
-    ∙ sym (sha256-ending m)
+    ∙ ap digest (c .before .blocks4 .ensures ∙ ap₂ over (c .before .before .before .blocks3 .ensures) end)
+    ∙ sha256-two m (self .length % 64) h refl (omega arith)
 
 pub finish-spec : {M : Type 1} → statement M
 finish-spec =
