@@ -57,6 +57,17 @@ impl Hmac {
     }
 }
 
+// The tag of a message that is handed whole: no keyed state is laid out in between.
+pub fn tag(key: &[u8], message: &[u8]) -> [u8; 32]
+    ensures { λ r. ⌜ r ≡ Rfc2104.hmac (now (key .entry)) (now (message .entry)) ⌝ }
+{
+    let block = padded(key);
+    let inner = masked(block, IPAD);
+    let digest = Sha256::of_block(inner).update(message).finish();
+    let outer = masked(block, OPAD);
+    Sha256::of_block(outer).finish_with(digest)
+}
+
 // The key, hashed where it is longer than a block, with zeros behind it.
 fn padded(key: &[u8]) -> [u8; 64]
     ensures { λ r. ⌜ r ≡ Rfc2104.padded (now (key .entry)) ⌝ }

@@ -5,7 +5,7 @@ ghost use Rattle.hmac.specs.Call.{Tags};
 
 pub mod keyed;
 
-use keyed::Hmac;
+use keyed::tag;
 use sha256::Answer;
 use sha256::LENGTH_LIMIT;
 use sha256::Outcome;
@@ -22,7 +22,7 @@ pub fn hmac(key: &[u8], message: &[u8]) -> Answer
     }
     Answer {
         outcome: Outcome::Done,
-        bytes: Hmac::new(key).update(message).finish(),
+        bytes: tag(key, message),
     }
 }
 

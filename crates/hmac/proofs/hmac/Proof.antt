@@ -1,4 +1,4 @@
--- `hmac::hmac` meets its contract: each refusal is its test's, and the keyed state's tag is HMAC's.
+-- `hmac::hmac` meets its contract: each refusal is its test's, and the tag is HMAC's.
 use mathlib.Core.Path.{_∙_, ap}
 use borrow.Author.Tests.{le-leb, lt-leb}
 use Rattle.sha256.specs.Call.{refusalOf}
@@ -26,21 +26,14 @@ returns-2 c =
       bytes = c .refused2 .ensures .1 ∙ rw (taken, long);
     }
 
-new-requires : tie.Need-new-requires
-new-requires c κs = search needs
-
-update-requires : tie.Need-update-requires
-update-requires c κs = search needs
-
-finish-requires : tie.Need-finish-requires
-finish-requires c κs = search needs
+tag-requires : tie.Need-tag-requires
+tag-requires c κs = search needs
 
 returns-3 : tie.Need-returns-3
 returns-3 c =
-    let taken = le-leb _ _ (c .before .before .before .before .if1 .left) in
-    let within = le-leb _ _ (c .before .before .before .if2 .left) in
-    let keyed = c .before .update .ensures _ _ (c .before .before .new .ensures) in
-    record { refusal = rw (taken, within); bytes = rw (taken, within) (c .finish .ensures _ _ keyed) }
+    let taken = le-leb _ _ (c .before .before .if1 .left) in
+    let within = le-leb _ _ (c .before .if2 .left) in
+    record { refusal = rw (taken, within); bytes = rw (taken, within) (c .tag .ensures) }
 
 pub hmac-spec : {M : Type 1} → statement M
 hmac-spec =
@@ -50,7 +43,5 @@ hmac-spec =
     returns
     refused-requires-2
     returns-2
-    new-requires
-    update-requires
-    finish-requires
+    tag-requires
     returns-3)
