@@ -1,5 +1,6 @@
 // Counts of four bytes, little-endian.
 ghost use mathlib.Core.Path.{_≡_};
+ghost use mathlib.Core.List.{[], _∷_};
 ghost use Prim.Native.Nat.{_+_, _≤_, _<_};
 ghost use lib.ListN.{length};
 ghost use Rattle.scheme.specs.Bytes.{le, num, part};
@@ -15,16 +16,26 @@ pub fn read_u32(bytes: &[u8], at: usize) -> u32
         + wide(bytes[at + 3]) * 16777216
 }
 
-// The four bytes of a number.
+// The bytes of a number as an array.
 pub fn le32(n: u32) -> [u8; 4]
     ensures { λ r. ⌜ r ≡ le 4 n ⌝ }
 {
-    [
+    let b = four_bytes(n);
+    [b.0, b.1, b.2, b.3]
+}
+
+// The four bytes of a number.
+pub struct FourBytes(pub u8, pub u8, pub u8, pub u8);
+
+pub fn four_bytes(n: u32) -> FourBytes
+    ensures { λ r. ⌜ r .0 ∷ r .1 ∷ r .2 ∷ r .3 ∷ [] ≡ le 4 n ⌝ }
+{
+    FourBytes(
         (n % 256) as u8,
         (n / 256 % 256) as u8,
         (n / 256 / 256 % 256) as u8,
         (n / 256 / 256 / 256 % 256) as u8,
-    ]
+    )
 }
 
 // A byte as a number of four bytes.

@@ -1,19 +1,44 @@
 -- `codec::header::read_header` meets its contract: each answer `Bad` stands behind one of the conditions of `badStore`, and where all of
 -- them fail the fields that were read are the header's.
-use mathlib.Core.Path.{_≡_, ap}
+use mathlib.Core.Path.{_≡_, ap, sym, _∙_}
 use Prim.Native.Nat.{_+_, _*_}
 use mathlib.Core.Bool.{not}
-use native.Mathlib.Omega.{arith}
 use borrow.Author.Tests.{lt-ltb, ne-eqb}
 use lib.ListN.{length, getD}
+use Rattle.scheme.specs.Rules.{outside}
 use Rattle.scheme.specs.Store.{badStore, phases, chunkCount, ratchet}
 use Rattle.scheme.proofs.Rules.{any-at}
 use Rattle.codec.proofs.Headers.{bad, good}
-use Rattle.codec.specs.Header.{headerOf, readHeader}
-use Rattle.codec.specs.declared.header.Reading.the-variants.{Store}
 use borrow.Author.Needs.{needs}
 use Rattle.codec.proofs.header.read_header.Statement.{statement}
 use Rattle.codec.proofs.header.read_header.Tie as tie
+
+abbrev start : tie.After-outside → tie.Start
+start c = c .before .before .before .before .before .before .before
+
+abbrev start-2 : tie.After-outside2 → tie.Start
+start-2 c = start (c .before .before .before)
+
+abbrev start-3 : tie.After-outside3 → tie.Start
+start-3 c = start-2 (c .before .before .before)
+
+phases-test : (c : tie.After-outside) → outside 1 8 (phases (start c .args .store .now)) ≡ c .outside .result
+unfolding phases
+phases-test c = sym (c .outside .ensures ∙ ap (outside 1 8) (c .before .wide .ensures .0))
+
+chunks-read : (c : tie.After-read-u32) → c .read-u32 .result ≡ chunkCount (start (c .before .before) .args .store .now)
+unfolding chunkCount
+chunks-read c = c .read-u32 .ensures
+
+chunks-test : (c : tie.After-outside2) → outside 1 1024 (chunkCount (start-2 c .args .store .now)) ≡ c .outside2 .result
+chunks-test c = sym (c .outside2 .ensures ∙ ap (outside 1 1024) (chunks-read (c .before)))
+
+ratchet-read : (c : tie.After-read-u322) → c .read-u322 .result ≡ ratchet (start-2 (c .before .before) .args .store .now)
+unfolding ratchet
+ratchet-read c = c .read-u322 .ensures
+
+ratchet-test : (c : tie.After-outside3) → outside 1 256 (ratchet (start-3 c .args .store .now)) ≡ c .outside3 .result
+ratchet-test c = sym (c .outside3 .ensures ∙ ap (outside 1 256) (ratchet-read (c .before)))
 
 returns : tie.Need-returns
 unfolding badStore
@@ -40,10 +65,8 @@ outside-requires : tie.Need-outside-requires
 outside-requires c κs = search needs
 
 returns-3 : tie.Need-returns-3
-unfolding badStore phases
-returns-3 c =
-    let st = c .before .before .before .before .before .before .before .before .args .store .now in
-    bad st (any-at _ 2 (cc))
+unfolding badStore
+returns-3 c = bad (start (c .before) .args .store .now) (any-at _ 2 (phases-test (c .before) ∙ c .if3 .taken))
 
 read-u32-requires : tie.Need-read-u32-requires
 read-u32-requires c κs = search needs
@@ -52,10 +75,8 @@ outside-requires-2 : tie.Need-outside-requires-2
 outside-requires-2 c κs = search needs
 
 returns-4 : tie.Need-returns-4
-unfolding badStore chunkCount
-returns-4 c =
-    let st = c .before .before .before .before .before .before .before .before .before .before .before .args .store .now in
-    bad st (any-at _ 3 (cc))
+unfolding badStore
+returns-4 c = bad (start-2 (c .before) .args .store .now) (any-at _ 3 (chunks-test (c .before) ∙ c .if4 .taken))
 
 read-u32-requires-2 : tie.Need-read-u32-requires-2
 read-u32-requires-2 c κs = search needs
@@ -64,10 +85,8 @@ outside-requires-3 : tie.Need-outside-requires-3
 outside-requires-3 c κs = search needs
 
 returns-5 : tie.Need-returns-5
-unfolding badStore ratchet
-returns-5 c =
-    let st = c .before .before .before .before .before .before .before .before .before .before .before .before .before .before .args .store .now in
-    bad st (any-at _ 4 (cc))
+unfolding badStore
+returns-5 c = bad (start-3 (c .before) .args .store .now) (any-at _ 4 (ratchet-test (c .before) ∙ c .if5 .taken))
 
 cast-if6 : tie.Need-cast-if6
 cast-if6 c = search needs
@@ -79,18 +98,30 @@ add-if6 : tie.Need-add-if6
 add-if6 c = search needs
 
 returns-6 : tie.Need-returns-6
-unfolding badStore chunkCount
+unfolding badStore
 returns-6 c =
-    let st = c .before .before .before .before .before .before .before .before .before .before .before .before .before .before .before .args .store .now in
-    let wrong : length st ≡ 18 + 32 * chunkCount st → ⊥ = omega arith in
-    bad st (any-at _ 5 (ap not (ne-eqb (length st) (18 + 32 * chunkCount st) wrong)))
+    let found = c .before .before .before .before .before in
+    let st = start-2 found .args .store .now in
+    let size = ap (λ k. 18 + 32 * k) (sym (chunks-read (found .before))) in
+    bad st (any-at _ 5 (ap not (ne-eqb (length st) (18 + 32 * chunkCount st) (λ e. c .if6 .taken (e ∙ size)))))
 
 returns-7 : tie.Need-returns-7
-unfolding phases chunkCount ratchet
+unfolding phases
 returns-7 c =
-    let st = c .before .before .before .before .before .before .before .before .before .before .before .before .before .before .before .args .store .now in
-    let whole : Store (headerOf st) ≡ readHeader st = good st (omega arith) (omega arith) (cc) (cc) (cc) (omega arith) in
-    cc
+    let ratchet-found = c .before .before in
+    let chunks-found = ratchet-found .before .before .before in
+    let phases-found = chunks-found .before .before .before in
+    let kind-found = phases-found .before .before .before in
+    good
+    (start phases-found .args .store .now)
+    (kind-found .before .before .if1 .left)
+    (kind-found .if2 .left)
+    (phases-test phases-found ∙ chunks-found .before .before .if3 .left)
+    (chunks-read (chunks-found .before))
+    (chunks-test chunks-found ∙ ratchet-found .before .before .if4 .left)
+    (ratchet-read (ratchet-found .before))
+    (ratchet-test ratchet-found ∙ c .before .if5 .left)
+    (c .if6 .left)
 
 pub read-header-spec : {M : Type 1} → statement M
 read-header-spec =

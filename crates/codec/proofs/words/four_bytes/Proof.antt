@@ -1,9 +1,9 @@
--- `codec::words::le32` meets its contract: the bytes are those that `le` gives, one by one.
+-- `codec::words::four_bytes` meets its contract: the bytes are those that `le` gives, one by one.
 use mathlib.Core.Path.{refl}
 use Rattle.scheme.specs.Bytes.{le}
 use borrow.Author.Needs.{needs}
-use Rattle.codec.proofs.words.le32.Statement.{statement}
-use Rattle.codec.proofs.words.le32.Tie as tie
+use Rattle.codec.proofs.words.four_bytes.Statement.{statement}
+use Rattle.codec.proofs.words.four_bytes.Tie as tie
 
 cast-t3 : tie.Need-cast-t3
 cast-t3 c = search needs
@@ -21,5 +21,5 @@ returns : tie.Need-returns
 unfolding le
 returns c = refl
 
-pub le32-spec : {M : Type 1} → statement M
-le32-spec = tie.close (tie.spec cast-t3 cast-t6 cast-t10 cast-t15 returns)
+pub four-bytes-spec : {M : Type 1} → statement M
+four-bytes-spec = tie.close (tie.spec cast-t3 cast-t6 cast-t10 cast-t15 returns)
