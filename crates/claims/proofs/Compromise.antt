@@ -12,6 +12,7 @@ use lib.ListN.{length, getD, take}
 use lib.Seq.{length-take-le, getD-take, ext-getD}
 use borrow.Author.Tests.{lt-ltb}
 use Rattle.scheme.specs.Store.{chunkCount, ratchet}
+use Rattle.scheme.specs.Items.{chunkOf, offsetOf}
 use Rattle.scheme.specs.Keys.{keyAt, tagOf}
 use Rattle.scheme.specs.Audit.{audit, pieces, headLength, itemTag, dataOf, messageOf}
 use Rattle.scheme.proofs.Headers.{same-fields}
@@ -66,7 +67,7 @@ module _ (f : Fed) (a : Account) (good : Good f a) (device logs lengths seal : L
   module _ (h : length (a .items) ≤ n) where
     tagged : (k : ℕ) → k < length (a .items)
         → itemTag (presented device seal k)
-        ≡ tagOf (f .store) (keyAt (f .store) (k / ratchet (f .store)) (k % ratchet (f .store))) (presentedMessage device logs seal k)
+        ≡ tagOf (f .store) (keyAt (f .store) (chunkOf (ratchet (f .store)) k) (offsetOf (ratchet (f .store)) k)) (presentedMessage device logs seal k)
     unfolding tagOf
     tagged k below = rw cut (rw ratchets at (ok .tag k (omega arith)))
 

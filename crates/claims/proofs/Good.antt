@@ -7,7 +7,7 @@ use Prim.Native.Nat.{ℕ, _+_, _*_, _/_, _%_, _≤_, _<_}
 use lib.Dec.{ltb}
 use lib.ListN.{length, getD}
 use Rattle.scheme.specs.Store.{entryKind, fillerKind, dataLimit, logCapacity, phases, chunkCount, ratchet}
-use Rattle.scheme.specs.Items.{entryLength, fillerLength}
+use Rattle.scheme.specs.Items.{entryLength, fillerLength, chunkOf, offsetOf}
 use Rattle.scheme.specs.Keys.{keyAt, tagOf}
 use Rattle.scheme.specs.Audit.{Area, areaOf, areaEnd, areasIn, kindOf, phaseOf, dataLength, chunkField, offsetField, itemTag, messageOf}
 use Rattle.claims.specs.Account.{Fed, Account, logOf, carried, sealReached}
@@ -42,7 +42,7 @@ pub record ItemAt (f : Fed) (a : Account) (k : ℕ) (it : List ℕ) : Type 0 whe
   pub chunk : chunkField it .0 ≡ k / ratchet (f .store)
   pub offset : offsetField it .0 ≡ k % ratchet (f .store)
   pub tag : itemTag it
-      ≡ tagOf (f .store) (keyAt (f .store) (k / ratchet (f .store)) (k % ratchet (f .store))) (messageOf (f .store) (logsLeft f a) it)
+      ≡ tagOf (f .store) (keyAt (f .store) (chunkOf (ratchet (f .store)) k) (offsetOf (ratchet (f .store)) k)) (messageOf (f .store) (logsLeft f a) it)
 
 -- areas one behind the other, from one place to another
 pub data Runs : ℕ → List Area → ℕ → Type 0 where

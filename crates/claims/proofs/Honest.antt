@@ -12,6 +12,7 @@ use native.Mathlib.Omega.{arith}
 use lib.ListN.{length, take, drop, take-append-drop}
 use lib.Seq.{drop-cons}
 use Rattle.scheme.specs.Store.{entryKind, phases}
+use Rattle.scheme.specs.Items.{chunkNumber, ratchetOffset}
 use Rattle.scheme.specs.Keys.{tagOf}
 use Rattle.scheme.specs.Audit.{audit, kindOf, phaseOf, areaOf, areaEnd, areasIn, covered, waiting, waitingAllowed, lengthIn, dataOf, messageOf}
 use Rattle.claims.specs.Account.{Fed, Account, logOf, lengthsReached}
@@ -79,7 +80,7 @@ module _ (f : Fed) (a : Account) (starts : Starts f) (good : Good f a) (whole : 
         number = rw (fields .ratchet) (used f a starts good whole);
         count = refl;
         form = λ k h. whole-form f a (itemOf a k) (good .items k h .form);
-        place = λ k h. rw (fields .ratchet) (good .items k h .chunk, good .items k h .offset);
+        place = λ k h. rw (fields .ratchet) (ap chunkNumber (good .items k h .chunk), ap ratchetOffset (good .items k h .offset));
         tag = λ k h. rw (fields .ratchet) (good .items k h .tag);
         ranges = λ k h kind.
             let e = entry f a good k h kind in

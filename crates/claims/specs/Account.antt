@@ -77,12 +77,15 @@ stepOn f a =
 
 -- the key that is due, from the unused store
 abbrev pub dueKey : Fed → Account → List ℕ
-dueKey f a = keyAt (f .store) (a .c .0) (a .r .0)
+dueKey f a = keyAt (f .store) (a .c) (a .r)
 
 -- the items that append and close add
+abbrev pub headDue : Account → ℕ → List ℕ → List ℕ
+headDue a phase bytes = entryHead phase (length (logOf a phase)) (length bytes) (a .c) (a .r)
+
 unfoldable pub entryDue : Fed → Account → ℕ → List ℕ → List ℕ
 entryDue f a phase bytes =
-    let head = entryHead phase (length (logOf a phase)) (length bytes) (a .c) (a .r) in
+    let head = headDue a phase bytes in
     head ++ tagOf (f .store) (dueKey f a) (itemMessage (f .store) head bytes)
 
 unfoldable pub fillerDue : Fed → Account → List ℕ

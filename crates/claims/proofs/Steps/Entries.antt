@@ -12,9 +12,9 @@ use borrow.Author.Tests.{eqb-true, eqb-false}
 use Rattle.scheme.specs.Bytes.{part}
 use Rattle.scheme.specs.Store.{entryKind, dataLimit, logCapacity, phases, chunkCount}
 use Rattle.scheme.specs.Items.{entryHead, entryLength}
-use Rattle.scheme.specs.Keys.{keyAt, tagOf}
+use Rattle.scheme.specs.Keys.{tagOf}
 use Rattle.scheme.specs.Audit.{Area, kindOf, phaseOf, logOffset, dataLength, chunkField, offsetField, itemTag, messageOf, areasIn, areaOf}
-use Rattle.claims.specs.Account.{Fed, Account, logOf, entryDue, sealReached}
+use Rattle.claims.specs.Account.{Fed, Account, logOf, dueKey, headDue, entryDue, sealReached}
 use Rattle.claims.specs.Claim.{logsLeft}
 use Rattle.claims.proofs.Good.{Good, ItemAt, Runs, none, next}
 use Rattle.claims.proofs.Steps.Begun.{Begun}
@@ -43,15 +43,12 @@ run-none {n} e = subst (Runs n []) e none
 run-one : {n m : ℕ} {area : Area} → area .from ≡ n → n + area .size ≡ m → Runs n (area ∷ []) m
 run-one e e′ = next e (run-none e′)
 
-abbrev headDue : Account → ℕ → List ℕ → List ℕ
-headDue a phase bytes = entryHead phase (length (logOf a phase)) (length bytes) (a .c) (a .r)
-
 pub entry-long : (f : Fed) (a : Account) (phase : ℕ) (bytes : List ℕ) → length (entryDue f a phase bytes) ≡ entryLength (f .store)
 unfolding entryDue
 entry-long f a phase bytes =
-    let key = keyAt (f .store) (a .c .0) (a .r .0) in
+    let key = dueKey f a in
     let message = headDue a phase bytes ++ bytes in
-    MadeItems.entry-length phase (length (logOf a phase)) (length bytes) (a .c) (a .r) (tagOf (f .store) key message)
+    MadeItems.entry-length _ _ _ _ _ (tagOf (f .store) key message)
     ∙ ap (λ (n : ℕ). 18 + n) (tag-length (f .store) key message)
 
 module _ (f : Fed) (begun : Begun f) (a : Account) (good : Good f a) (phase : ℕ) (bytes : List ℕ) (asks : Appends f a phase bytes) where
@@ -82,38 +79,38 @@ module _ (f : Fed) (begun : Begun f) (a : Account) (good : Good f a) (phase : �
           rw (log-same q same, same) (take-append-seam (logOf a phase) bytes)
       go false e = rw (log-other (q - 1) (eqb-false (q - 1) (phase - 1) e)) (take-length (logOf a q))
 
-  module _ (tag : List ℕ) (tagged : tag ≡ tagOf (f .store) (keyAt (f .store) (a .c .0) (a .r .0)) (headDue a phase bytes ++ bytes))
+  module _ (tag : List ℕ) (tagged : tag ≡ tagOf (f .store) (dueKey f a) (headDue a phase bytes ++ bytes))
       (long : length (headDue a phase bytes ++ tag) ≡ entryLength (f .store)) where
     item : List ℕ
     item = headDue a phase bytes ++ tag
 
     item-kind : kindOf item ≡ entryKind
     unfolding item
-    item-kind = MadeItems.entry-kind phase (length (logOf a phase)) (length bytes) (a .c) (a .r) tag
+    item-kind = MadeItems.entry-kind _ _ _ _ _ tag
 
     item-phase : phaseOf item ≡ phase
     unfolding item
-    item-phase = MadeItems.entry-phase phase (length (logOf a phase)) (length bytes) (a .c) (a .r) tag
+    item-phase = MadeItems.entry-phase _ _ _ _ _ tag
 
     item-at : logOffset item ≡ length (logOf a phase)
     unfolding item
-    item-at = MadeItems.entry-at phase (length (logOf a phase)) (length bytes) (a .c) (a .r) tag (omega (arith, good .sizes (phase - 1)))
+    item-at = MadeItems.entry-at _ _ _ _ _ tag (omega (arith, good .sizes (phase - 1)))
 
     item-size : dataLength item ≡ length bytes
     unfolding item
-    item-size = MadeItems.entry-size phase (length (logOf a phase)) (length bytes) (a .c) (a .r) tag (omega arith)
+    item-size = MadeItems.entry-size _ _ _ _ _ tag (omega arith)
 
     item-chunk : chunkField item .0 ≡ a .c .0
     unfolding item
-    item-chunk = MadeItems.entry-chunk phase (length (logOf a phase)) (length bytes) (a .c) (a .r) tag (omega arith)
+    item-chunk = MadeItems.entry-chunk _ _ _ _ _ tag (omega arith)
 
     item-offset : offsetField item .0 ≡ a .r .0
     unfolding item
-    item-offset = MadeItems.entry-offset phase (length (logOf a phase)) (length bytes) (a .c) (a .r) tag (omega arith)
+    item-offset = MadeItems.entry-offset _ _ _ _ _ tag (omega arith)
 
     item-tag : itemTag item ≡ tag
     unfolding item
-    item-tag = MadeItems.entry-tag phase (length (logOf a phase)) (length bytes) (a .c) (a .r) tag
+    item-tag = MadeItems.entry-tag _ _ _ _ _ tag
 
     item-long : length item ≡ entryLength (f .store)
     unfolding item
@@ -131,7 +128,7 @@ module _ (f : Fed) (begun : Begun f) (a : Account) (good : Good f a) (phase : �
       item-message =
           let count = ap length logs ∙ grown-count in
           let longer = ap length log-now ∙ length-append (logOf a phase) bytes in
-          MadeItems.entry-message phase (length (logOf a phase)) (length bytes) (a .c) (a .r) tag (f .store) (logsLeft f b)
+          MadeItems.entry-message _ _ _ _ _ tag (f .store) (logsLeft f b)
           (omega (arith, good .sizes (phase - 1))) (omega arith)
           ∙ ap (λ (d : List ℕ). headDue a phase bytes ++ d)
           (log-part f b room-now phase (length (logOf a phase)) (length bytes) (asks .low) (omega arith) (omega arith)
@@ -191,5 +188,5 @@ module _ (f : Fed) (begun : Begun f) (a : Account) (good : Good f a) (phase : �
 
   pub entry-adds : Adds f a (entryDue f a phase bytes) (logsWith a phase bytes)
   unfolding entryDue item
-  entry-adds = item-adds (tagOf (f .store) (keyAt (f .store) (a .c .0) (a .r .0)) (headDue a phase bytes ++ bytes)) refl
+  entry-adds = item-adds (tagOf (f .store) (dueKey f a) (headDue a phase bytes ++ bytes)) refl
       (entry-long f a phase bytes)

@@ -11,9 +11,9 @@ use lib.Seq.{take-length}
 use borrow.Author.Tests.{eqb-true, eqb-false, ne-eqb, lt-ltb, le-ltb}
 use Rattle.scheme.specs.Store.{fillerKind, phases, ratchet}
 use Rattle.scheme.specs.Items.{fillerHead, fillerLength}
-use Rattle.scheme.specs.Keys.{keyAt, tagOf}
+use Rattle.scheme.specs.Keys.{tagOf}
 use Rattle.scheme.specs.Audit.{kindOf, chunkField, offsetField, itemTag, messageOf, areasIn}
-use Rattle.claims.specs.Account.{Fed, Account, logOf, fillerDue, sealReached, stepOn, withItem, accountClose, afterClose}
+use Rattle.claims.specs.Account.{Fed, Account, logOf, dueKey, fillerDue, sealReached, stepOn, withItem, accountClose, afterClose}
 use Rattle.scheme.specs.Bytes.{joined}
 use Rattle.claims.proofs.Good.{Good, Runs, none}
 use Rattle.claims.proofs.Steps.Begun.{Begun}
@@ -28,11 +28,11 @@ use Rattle.claims.proofs.Steps.TagLength.{tag-length}
 pub filler-long : (f : Fed) (a : Account) → length (fillerDue f a) ≡ fillerLength (f .store)
 unfolding fillerDue
 filler-long f a =
-    MadeItems.filler-length (a .c) (a .r) (tagOf (f .store) (keyAt (f .store) (a .c .0) (a .r .0)) (fillerHead (a .c) (a .r) ++ []))
-    ∙ ap (λ (n : ℕ). 9 + n) (tag-length (f .store) (keyAt (f .store) (a .c .0) (a .r .0)) (fillerHead (a .c) (a .r) ++ []))
+    MadeItems.filler-length (a .c) (a .r) (tagOf (f .store) (dueKey f a) (fillerHead (a .c) (a .r) ++ []))
+    ∙ ap (λ (n : ℕ). 9 + n) (tag-length (f .store) (dueKey f a) (fillerHead (a .c) (a .r) ++ []))
 
 module _ (f : Fed) (begun : Begun f) (a : Account) (good : Good f a) where
-  module _ (inner : 0 < a .r .0) (tag : List ℕ) (tagged : tag ≡ tagOf (f .store) (keyAt (f .store) (a .c .0) (a .r .0)) (fillerHead (a .c) (a .r) ++ []))
+  module _ (inner : 0 < a .r .0) (tag : List ℕ) (tagged : tag ≡ tagOf (f .store) (dueKey f a) (fillerHead (a .c) (a .r) ++ []))
       (long : length (fillerHead (a .c) (a .r) ++ tag) ≡ fillerLength (f .store)) where
     item : List ℕ
     item = fillerHead (a .c) (a .r) ++ tag
@@ -90,7 +90,7 @@ module _ (f : Fed) (begun : Begun f) (a : Account) (good : Good f a) where
       → Good f (stepOn f (withItem a (fillerDue f a)))
   unfolding fillerDue item
   filler-good inner sealed =
-      let tag = tagOf (f .store) (keyAt (f .store) (a .c .0) (a .r .0)) (fillerHead (a .c) (a .r) ++ []) in
+      let tag = tagOf (f .store) (dueKey f a) (fillerHead (a .c) (a .r) ++ []) in
       adds-good f (begun .store) a good (fillerHead (a .c) (a .r) ++ tag) (a .logs) (item-adds inner tag refl (filler-long f a) sealed)
 
 -- ---- up to offset 0

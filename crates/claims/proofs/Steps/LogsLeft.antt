@@ -10,6 +10,7 @@ use lib.ListN.{length, getD, take, drop, length-take}
 use lib.Seq.{take-take, drop-drop}
 use Rattle.scheme.specs.Bytes.{part}
 use Rattle.scheme.specs.Store.{logCapacity, logPlace, phases, ratchet}
+use Rattle.scheme.specs.Items.{chunkOf, offsetOf}
 use Rattle.scheme.specs.Keys.{keyAt, tagOf}
 use Rattle.scheme.specs.Audit.{phaseOf, logOffset, dataLength, headOf, dataOf, messageOf}
 use Rattle.claims.specs.Account.{Fed, Account, logOf}
@@ -74,7 +75,7 @@ module _ (f : Fed) (a b : Account) (here : Room f 0 (a .logs) (f .logs)) (there 
         chunk = i .chunk;
         offset = i .offset;
         tag = i .tag
-            ∙ ap (λ (d : List ℕ). tagOf (f .store) (keyAt (f .store) (k / ratchet (f .store)) (k % ratchet (f .store))) (headOf it ++ d))
+            ∙ ap (λ (d : List ℕ). tagOf (f .store) (keyAt (f .store) (chunkOf (ratchet (f .store)) k) (offsetOf (ratchet (f .store)) k)) (headOf it ++ d))
             (data-kept it (i .form));
       }
     where

@@ -10,7 +10,8 @@ use borrow.Author.Tests.{eqb-true, eqb-false, ne-eqb, lt-ltb, le-ltb}
 use Rattle.scheme.specs.Bytes.{splice}
 use Rattle.scheme.specs.Store.{ratchet, chunk, chunkPlace}
 use Rattle.scheme.specs.Items.{entryLength, fillerLength}
-use Rattle.scheme.specs.Keys.{nextKey, keyAt, tagOf}
+use Rattle.scheme.specs.declared.RatchetOffset.{RatchetOffset}
+use Rattle.scheme.specs.Keys.{nextKey, keyAfter, tagOf}
 use Rattle.scheme.specs.Sealer.{usedKey, stepped, grown, sealedMore, entryItem, fillerItem, burnedStore, filledState, filledSeal}
 use Rattle.claims.specs.Account.{Fed, Account, logOf, sealReached, dueKey, entryDue, fillerDue, withItem, withData, stepOn}
 use Rattle.scheme.specs.Bytes.{joined}
@@ -26,12 +27,12 @@ use Rattle.claims.proofs.Steps.Zeroed.{zeroed, zeroed-later}
 
 -- after an item sealed with the due key
 module _ (f : Fed) (store : List ℕ) (same : ratchet store ≡ ratchet (f .store)) where
-  next-due : (key : List ℕ) (r : ℕ) → nextKey store key r ≡ nextKey (f .store) key r
+  next-due : (key : List ℕ) (r : RatchetOffset) → nextKey store key r ≡ nextKey (f .store) key r
   unfolding nextKey
   next-due key r = rw same
 
   stepped-held : (a : Account) → a .r .0 < ratchet (f .store) → (key : List ℕ) → stepped store (dueKey f a) (holding a key) ≡ held f (stepOn f a)
-  unfolding stepped keyAt
+  unfolding stepped keyAfter
   stepped-held a below key = go (eqb (suc (a .r .0)) (ratchet (f .store))) refl
     where
       go : (t : Bool) → eqb (suc (a .r .0)) (ratchet (f .store)) ≡ t → stepped store (dueKey f a) (holding a key) ≡ held f (stepOn f a)
@@ -41,12 +42,12 @@ module _ (f : Fed) (store : List ℕ) (same : ratchet store ≡ ratchet (f .stor
       go false e =
           let apart = eqb-false (suc (a .r .0)) (ratchet (f .store)) e in
           let test : ltb (suc (a .r .0)) (ratchet store) ≡ true = rw same (lt-ltb (suc (a .r .0)) (ratchet (f .store)) (omega arith)) in
-          rw (step-onward f a apart, test, next-due (dueKey f a) (suc (a .r .0)), ne-eqb (suc (a .r .0)) 0 (λ z. omega arith))
+          rw (step-onward f a apart, test, next-due (dueKey f a) (record { 0 = suc (a .r .0) }), ne-eqb (suc (a .r .0)) 0 (λ z. omega arith))
 
 -- the key that is used is the due one
 module _ (f : Fed) (begun : Begun f) (a : Account) (good : Good f a) where
   used-due : usedKey (storeLeft f a) (held f a) ≡ dueKey f a
-  unfolding usedKey keyAt
+  unfolding usedKey keyAfter
   used-due = go (eqb (a .r .0) 0) refl
     where
       go : (t : Bool) → eqb (a .r .0) 0 ≡ t → cond t (chunk (storeLeft f a) (a .c .0)) (cond t (replicate 32 0) (dueKey f a)) ≡ dueKey f a
@@ -54,7 +55,7 @@ module _ (f : Fed) (begun : Begun f) (a : Account) (good : Good f a) where
           let low : front a ≤ a .c .0 = rw e (omega arith) in
           ap (λ (st : List ℕ). chunk st (a .c .0)) (store-left f a good (begun .store))
           ∙ zeroed-later (f .store) (begun .store) (front a) (front-at-most f a good (begun .store)) (a .c .0) low
-          ∙ ap (keyAt (f .store) (a .c .0)) (sym (eqb-true (a .r .0) 0 e))
+          ∙ ap (keyAfter (f .store) (a .c)) (sym (eqb-true (a .r .0) 0 e))
       go false e = refl
 
   pub entry-made : (phase : ℕ) (bytes : List ℕ) → entryItem (storeLeft f a) (held f a) phase bytes ≡ entryDue f a phase bytes
