@@ -37,8 +37,9 @@ fn too_long(path: &Path) -> Failure {
     )
 }
 
-/// Writes a new file, readable to its owner alone: it may hold keys. An
-/// existing file is overwritten if `force` says so, and keeps its mode.
+/// Writes a new file, readable to its owner alone: it may hold keys. One that
+/// can't be written whole is removed. An existing file is overwritten if
+/// `force` says so, and keeps its mode.
 pub fn write(path: &Path, bytes: &[u8], force: bool) -> Result<(), Failure> {
     let mut options = OpenOptions::new();
     options.write(true);
@@ -51,8 +52,13 @@ pub fn write(path: &Path, bytes: &[u8], force: bool) -> Result<(), Failure> {
     let mut file = options
         .open(path)
         .map_err(|error| cannot("write", path, &error))?;
-    file.write_all(bytes)
-        .map_err(|error| cannot("write", path, &error))
+    file.write_all(bytes).map_err(|error| {
+        if !force {
+            // What matters to the reader is the first error.
+            let _ = fs::remove_file(path);
+        }
+        cannot("write", path, &error)
+    })
 }
 
 pub fn is_there(path: &Path) -> Failure {
@@ -62,6 +68,7 @@ pub fn is_there(path: &Path) -> Failure {
 fn cannot(what: &str, path: &Path, error: &std::io::Error) -> Failure {
     match error.kind() {
         ErrorKind::NotFound => Failure::file(path, "no such file or folder"),
+        ErrorKind::NotADirectory => Failure::file(path, "a folder of this path is a file"),
         ErrorKind::AlreadyExists => is_there(path),
         _ => Failure::file(path, format!("cannot {what} it: {error}")),
     }

@@ -171,7 +171,8 @@ fn folder_in_the_place_of_a_file() {
 fn file_in_the_place_of_a_folder() {
     let folder = small_folder("file");
     let error = run(&["audit", &folder.path("seal.bin")]).failed();
-    assert!(error.contains("seal.bin/device.store: "), "{error}");
+    let expected = "seal.bin/device.store: a folder of this path is a file\n";
+    assert!(error.ends_with(expected), "{error}");
 }
 
 /// Every file empty in turn is refused by the rule that reads it first.
