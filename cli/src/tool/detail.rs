@@ -4,7 +4,7 @@
 use pahyndoi::{Material, Rejected};
 
 use super::coverage::Coverage;
-use super::item::{Item, items, number_at};
+use super::item::{DATA_LIMIT, Item, items, number_at};
 use super::store::{Header, LOG_CAPACITY, burned_at_front, chunks, is_burned};
 use super::text::{counted, grouped};
 
@@ -29,12 +29,17 @@ pub fn detail(material: &Material, rejected: &Rejected) -> Option<String> {
 }
 
 fn logs_detail(header: &Header, logs: &[u8]) -> String {
-    let needed = LOG_CAPACITY * usize::from(header.phases);
+    size_sentence(logs, LOG_CAPACITY, header)
+}
+
+/// Of bytes that ought to be so many a phase.
+fn size_sentence(bytes: &[u8], of_a_phase: usize, header: &Header) -> String {
+    let phases = usize::from(header.phases);
     format!(
-        "It has {}, and {} ask for {}.",
-        counted(logs.len(), "byte"),
-        counted(usize::from(header.phases), "phase"),
-        grouped(needed as u64)
+        "It has {}, not the {} of {}.",
+        counted(bytes.len(), "byte"),
+        grouped((of_a_phase * phases) as u64),
+        counted(phases, "phase")
     )
 }
 
@@ -48,14 +53,8 @@ fn stray_burned_chunk(store: &[u8]) -> Option<String> {
 }
 
 fn lengths_detail(header: &Header, lengths: &[u8]) -> String {
-    let phases = usize::from(header.phases);
-    if lengths.len() != 4 * phases {
-        return format!(
-            "There are {}, and {} ask for {}.",
-            counted(lengths.len(), "byte"),
-            counted(phases, "phase"),
-            4 * phases
-        );
+    if lengths.len() != 4 * usize::from(header.phases) {
+        return size_sentence(lengths, 4, header);
     }
     let numbers = lengths.chunks_exact(4).map(|four| number_at(four, 0));
     let over = numbers
@@ -105,8 +104,9 @@ fn item_detail(header: &Header, material: &Material, rejected: &Rejected) -> Opt
     let more = match rejected.refusal.0 {
         16 => keys_sentence(header, material),
         17 => position_sentence(header, number),
-        18 => length_sentence(material, &item).unwrap_or_default(),
+        18 => area_sentence(header, material, &item).unwrap_or_default(),
         19 => sharing_sentence(material, &item).unwrap_or_default(),
+        20 => waiting_sentence(material, &item).unwrap_or_default(),
         _ => String::new(),
     };
     Some(
@@ -148,10 +148,38 @@ fn position_sentence(header: &Header, number: usize) -> String {
     format!("Item {number} ought to have chunk {chunk}, ratchet offset {offset}.")
 }
 
-fn length_sentence(material: &Material, item: &Item) -> Option<String> {
-    let index = usize::from(item.area?.phase).checked_sub(1)?;
+/// The first part of rule 18 that the item's area meets.
+fn area_sentence(header: &Header, material: &Material, item: &Item) -> Option<String> {
+    let (area, phases) = (item.area?, header.phases);
+    if !(1..=phases).contains(&area.phase) {
+        return Some(format!("Phases are 1 to {phases}."));
+    }
+    let Some(bytes) = area.bytes() else {
+        return Some(format!("Data lengths are 1 to {DATA_LIMIT}."));
+    };
+    let index = usize::from(area.phase - 1);
     let length = number_at(material.lengths.chunks_exact(4).nth(index)?, 0);
-    Some(format!("The phase's length is {}.", grouped(length.into())))
+    Some(format!(
+        "The area ends at {}, and the phase's length is {}.",
+        grouped(bytes.end),
+        grouped(length.into())
+    ))
+}
+
+/// How far the item's phase is covered up to the item, and what waits.
+fn waiting_sentence(material: &Material, item: &Item) -> Option<String> {
+    let taken = &material.seal_file[..item.place.end];
+    let coverage = Coverage::read(material.lengths, taken);
+    let index = usize::from(item.area?.phase).checked_sub(1)?;
+    let log = coverage.logs.get(index)?;
+    let covered = log.covered();
+    let waiting = log.areas.iter().filter(|area| area.bytes.start > covered);
+    Some(format!(
+        "Of the phase, {} of {} are covered so far, and {} wait.",
+        grouped(covered as u64),
+        counted(log.bytes.len(), "byte"),
+        counted(waiting.count(), "item")
+    ))
 }
 
 /// The first earlier item of the phase that shares a byte.
@@ -186,9 +214,9 @@ fn gap_detail(material: &Material) -> Option<String> {
     let mut logs = coverage.logs.iter();
     let log = logs.find(|log| log.covered() < log.bytes.len())?;
     Some(format!(
-        "Phase {} is covered up to byte {} of {}.",
+        "Of phase {}, {} of {} are covered without a gap.",
         log.phase,
         grouped(log.covered() as u64),
-        grouped(log.bytes.len() as u64)
+        counted(log.bytes.len(), "byte")
     ))
 }

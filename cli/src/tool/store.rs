@@ -3,7 +3,7 @@
 use std::ops::RangeInclusive;
 
 use super::item::number_at;
-use super::text::grouped;
+use super::text::{counted, grouped};
 
 const STORE_KIND: u8 = 1;
 const HEADER_LENGTH: usize = 18;
@@ -29,9 +29,11 @@ pub struct Header {
 impl Header {
     /// The header of a well-formed store, else what is wrong with it.
     pub fn read(store: &[u8]) -> Result<Header, String> {
-        let length = grouped(store.len() as u64);
         let Some(bytes) = store.get(..HEADER_LENGTH) else {
-            return Err(format!("has {length} bytes, and its header takes 18"));
+            let length = counted(store.len(), "byte");
+            return Err(format!(
+                "has {length}, and its header takes {HEADER_LENGTH}"
+            ));
         };
         if bytes[0] != STORE_KIND {
             return Err(format!("has kind {}, and a store has kind 1", bytes[0]));
@@ -48,9 +50,10 @@ impl Header {
         match header.store_length() {
             needed if needed == store.len() => Ok(header),
             needed => Err(format!(
-                "has {length} bytes, and its {} chunks ask for {}",
-                header.chunks,
-                grouped(needed as u64)
+                "has {}, not the {} of a header and {}",
+                counted(store.len(), "byte"),
+                grouped(needed as u64),
+                counted(header.chunks as usize, "chunk")
             )),
         }
     }
@@ -144,7 +147,7 @@ mod tests {
             ),
             (
                 store(two_chunks),
-                "has 50 bytes, and its 2 chunks ask for 82",
+                "has 50 bytes, not the 82 of a header and 2 chunks",
             ),
         ];
         for (bytes, reason) in cases {

@@ -28,8 +28,8 @@ fn refused_files(rule: u32, item: Option<u32>, words: &str, files: &Files) {
 #[test]
 fn rule_2() {
     let words = "the store is under 18 bytes, has another kind, has a count outside its range or \
-                 has the wrong length. The device's store has 113 bytes, and its 3 chunks ask for \
-                 114.";
+                 has the wrong length. The device's store has 113 bytes, not the 114 of a header \
+                 and 3 chunks.";
     refused(2, None, words, |files| {
         files.device.pop();
     });
@@ -37,8 +37,8 @@ fn rule_2() {
 
 #[test]
 fn rule_3() {
-    let words = "the log memory has the wrong length. It has 16,385 bytes, and 2 phases ask for \
-                 16,384.";
+    let words = "the log memory has the wrong length. It has 16,385 bytes, not the 16,384 of 2 \
+                 phases.";
     refused(3, None, words, |files| files.logs.push(0));
 }
 
@@ -53,7 +53,7 @@ fn rule_4() {
 fn rule_5() {
     let rule = "the list of lengths has another number of entries than the phases, or one over \
                 8,192.";
-    let words = format!("{rule} There are 7 bytes, and 2 phases ask for 8.");
+    let words = format!("{rule} It has 7 bytes, not the 8 of 2 phases.");
     refused(5, None, &words, |files| {
         files.lengths.pop();
     });
@@ -130,14 +130,19 @@ fn rule_18() {
                 phase's length. At byte";
     let words = format!(
         "{rule} 200 of the seal file stands an entry of phase 1, offset 20, 10 bytes, chunk 1, \
-         ratchet offset 1. The phase's length is 29."
+         ratchet offset 1. The area ends at 30, and the phase's length is 29."
     );
     refused(18, Some(4), &words, |files| files.set_lengths(&[29, 8]));
     let words = format!(
         "{rule} 0 of the seal file stands an entry of phase 0, offset 0, 10 bytes, chunk 0, \
-         ratchet offset 0."
+         ratchet offset 0. Phases are 1 to 2."
     );
     refused(18, Some(0), &words, |files| files.seal[1] = 0);
+    let words = format!(
+        "{rule} 0 of the seal file stands an entry of phase 1, offset 0, 0 bytes, chunk 0, \
+         ratchet offset 0. Data lengths are 1 to 512."
+    );
+    refused(18, Some(0), &words, |files| files.seal[6] = 0);
 }
 
 #[test]
@@ -154,7 +159,8 @@ fn rule_20() {
     let entries = [(1, &b"x"[..]); 17];
     let files = sealed(store(1, 1, 17), &[100], &entries);
     let words = "after taking the item, over 16 items of its phase wait. At byte 800 of the seal \
-                 file stands an entry of phase 1, offset 116, 1 byte, chunk 0, ratchet offset 16.";
+                 file stands an entry of phase 1, offset 116, 1 byte, chunk 0, ratchet offset 16. Of \
+                 the phase, 0 of 117 bytes are covered so far, and 17 items wait.";
     refused_files(20, Some(16), words, &files);
 }
 
@@ -175,8 +181,8 @@ fn rule_22() {
 
 #[test]
 fn rule_23() {
-    let words = "a phase's covered bytes are fewer than its length. Phase 2 is covered up to byte \
-                 8 of 9.";
+    let words = "a phase's covered bytes are fewer than its length. Of phase 2, 8 of 9 bytes are \
+                 covered without a gap.";
     refused(23, None, words, |files| files.set_lengths(&[30, 9]));
 }
 
