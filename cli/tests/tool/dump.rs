@@ -59,7 +59,7 @@ fn unknown_kind() {
     assert!(joined(&text).ends_with(damage), "{text}");
 }
 
-/// Cut at every byte: the whole items are listed, and the end is named.
+/// Cut inside an item: the whole items are listed, and the end is named.
 #[test]
 fn every_short_end() {
     let seal = small().seal;
