@@ -6,6 +6,7 @@ use std::ops::RangeInclusive;
 use std::path::{Path, PathBuf};
 
 use super::failure::Failure;
+use super::text::shown;
 
 /// What a command understands.
 pub struct Syntax {
@@ -28,6 +29,12 @@ pub struct Arguments {
 
 pub fn is_help(argument: &OsString) -> bool {
     argument == "--help" || argument == "-h"
+}
+
+/// Whether help is asked for before the flags end.
+pub fn ask_for_help(arguments: &[OsString]) -> bool {
+    let mut flags = arguments.iter().take_while(|argument| *argument != "--");
+    flags.any(is_help)
 }
 
 impl Syntax {
@@ -66,7 +73,7 @@ impl Syntax {
             return Ok(());
         }
         let Some(name) = known(self.valued, name) else {
-            return Err(self.wrong(format!("unknown flag '{}'", argument.display())));
+            return Err(self.wrong(format!("unknown flag '{}'", shown(argument))));
         };
         let value = match attached {
             Some(value) => Some(OsString::from(value)),
@@ -82,8 +89,11 @@ impl Syntax {
     }
 
     fn read_operand(&self, read: &mut Arguments, argument: &OsStr) -> Result<(), Failure> {
+        if argument.is_empty() {
+            return Err(self.wrong("an argument is empty".to_string()));
+        }
         if read.operands.len() == self.operands {
-            return Err(self.wrong(format!("'{}' is too much", argument.display())));
+            return Err(self.wrong(format!("'{}' is too much", shown(argument))));
         }
         read.operands.push(PathBuf::from(argument));
         Ok(())
@@ -94,14 +104,14 @@ impl Syntax {
     }
 }
 
-/// A flag's name and the value behind its `=`. A value that is not UTF-8 has
-/// to stand alone.
-fn split(argument: &OsStr) -> (&str, Option<&str>) {
-    let text = argument.to_str().unwrap_or_default();
-    match text.split_once('=') {
-        Some((name, value)) => (name, Some(value)),
-        None => (text, None),
-    }
+/// A flag's name and the value behind its `=`, which need not be UTF-8.
+fn split(argument: &OsStr) -> (&str, Option<&OsStr>) {
+    let bytes = argument.as_encoded_bytes();
+    let sign = bytes.iter().position(|byte| *byte == b'=');
+    let name = &bytes[..sign.unwrap_or(bytes.len())];
+    // SAFETY: the bytes are an OsStr's, split behind an ASCII character.
+    let value = sign.map(|sign| unsafe { OsStr::from_encoded_bytes_unchecked(&bytes[sign + 1..]) });
+    (str::from_utf8(name).unwrap_or_default(), value)
 }
 
 fn is_flag(argument: impl AsRef<OsStr>) -> bool {
@@ -145,7 +155,8 @@ impl Arguments {
             .filter(|number| range.contains(number))
             .ok_or_else(|| {
                 let (low, high) = range.into_inner();
-                self.wrong(format!("{flag} {text}: a number from {low} to {high}"))
+                let value = shown(text);
+                self.wrong(format!("{flag} {value}: a number from {low} to {high}"))
             })
     }
 
@@ -155,7 +166,7 @@ impl Arguments {
     }
 
     fn bad_value(&self, flag: &str, value: &OsStr) -> Failure {
-        self.wrong(format!("{flag} {}: not understood", value.display()))
+        self.wrong(format!("{flag} {}: not understood", shown(value)))
     }
 
     pub fn wrong(&self, message: String) -> Failure {

@@ -39,7 +39,8 @@ impl Evidence {
         })
     }
 
-    /// Writes new files into the folder; none if one is there already.
+    /// Writes new files into the folder; none if one is there already, be it
+    /// a link that leads nowhere.
     pub fn write(&self, folder: &Path) -> Result<(), Failure> {
         let contents = [
             &self.device,
@@ -49,7 +50,7 @@ impl Evidence {
             &self.seal,
         ];
         let paths = PARTS.map(|(_, name)| folder.join(name));
-        if let Some(path) = paths.iter().find(|path| path.exists()) {
+        if let Some(path) = paths.iter().find(|path| path.symlink_metadata().is_ok()) {
             return Err(files::is_there(path));
         }
         for (path, bytes) in paths.iter().zip(contents) {

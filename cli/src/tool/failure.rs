@@ -4,6 +4,8 @@ use std::fmt;
 use std::io;
 use std::path::Path;
 
+use super::text::shown;
+
 #[derive(Debug)]
 pub enum Failure {
     /// The arguments are wrong, those of a command or of the tool.
@@ -26,7 +28,7 @@ impl Failure {
     }
 
     pub fn file(path: &Path, reason: impl fmt::Display) -> Failure {
-        Failure::File(format!("{}: {reason}", path.display()))
+        Failure::File(format!("{}: {reason}", shown(path)))
     }
 }
 

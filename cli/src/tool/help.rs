@@ -43,7 +43,8 @@ In FOLDER are looked for, and each flag names another file instead:
   --seal FILE     seal.bin, the seal file
 
   --json          print one JSON object: verdict, items (the count when
-                  accepted), rule, item, reason, detail, files
+                  accepted), rule, item, reason, detail, files; with exit
+                  status 2 there is none, only the error for people
   --no-picture    leave out the picture of what the items cover
 
 At most 64 MiB (67,108,864 bytes) of a file are read; a longer one is an error.
@@ -83,5 +84,5 @@ Usage: pahyndoi pack --id HEX --phases P --chunks C --ratchet N
 No keys are made here. FILE's bytes must be random and secret, from a source
 that you trust; whoever knows them can forge seals.
 
-Exit status: 0 the store is written, 2 it is not.
+Exit status: 0, or 2 for bad usage or a file that can't be read or written.
 ";

@@ -51,12 +51,12 @@ pub fn run(arguments: &[OsString], out: &mut dyn Write) -> Result<Status, Failur
         return print(out, help::TOOL);
     }
     let mut commands = COMMANDS.iter();
-    let Some((_, command, text)) = commands.find(|(name, ..)| first == name) else {
-        let message = format!("unknown command '{}'", first.display());
+    let Some((_, command, help)) = commands.find(|(name, ..)| first == name) else {
+        let message = format!("unknown command '{}'", text::shown(first));
         return Err(Failure::usage(None, message));
     };
-    match rest.iter().any(arguments::is_help) {
-        true => print(out, text),
+    match arguments::ask_for_help(rest) {
+        true => print(out, help),
         false => command(rest, out),
     }
 }

@@ -9,7 +9,7 @@ use super::arguments::{Arguments, Syntax};
 use super::failure::Failure;
 use super::files;
 use super::store::{CHUNK_LENGTH, CHUNKS, Header, PHASES, RATCHET, is_burned};
-use super::text::{counted, grouped, wrapped};
+use super::text::{counted, grouped, shown};
 
 const SYNTAX: Syntax = Syntax {
     command: "pack",
@@ -34,15 +34,15 @@ pub fn run(arguments: &[OsString], out: &mut dyn Write) -> Result<Status, Failur
     check_keys(keys_path, &keys, header.chunks as usize)?;
     let store = [header.to_bytes(), keys].concat();
     files::write(store_path, &store, arguments.has("--force"))?;
-    let text = format!(
+    writeln!(
+        out,
         "{}: {}; {}, {} for {}.",
-        store_path.display(),
+        shown(store_path),
         counted(store.len(), "byte"),
         counted(usize::from(header.phases), "phase"),
         counted(header.chunks as usize, "chunk"),
         counted(header.keys_of(header.chunks as usize), "item"),
-    );
-    out.write_all(wrapped("", &text).as_bytes())?;
+    )?;
     Ok(Status::Done)
 }
 
@@ -62,7 +62,7 @@ fn id(arguments: &Arguments) -> Result<[u8; 8], Failure> {
     let number = u64::from_str_radix(text, 16).ok().filter(|_| digits);
     match number {
         Some(number) => Ok(number.to_be_bytes()),
-        None => Err(arguments.wrong(format!("--id {text}: 16 hexadecimal digits"))),
+        None => Err(arguments.wrong(format!("--id {}: 16 hexadecimal digits", shown(text)))),
     }
 }
 
@@ -70,10 +70,10 @@ fn check_keys(path: &Path, keys: &[u8], chunk_count: usize) -> Result<(), Failur
     let needed = CHUNK_LENGTH * chunk_count;
     if keys.len() != needed {
         let reason = format!(
-            "has {}, and {} ask for {}",
+            "has {}, not the {} of {}",
             counted(keys.len(), "byte"),
-            counted(chunk_count, "chunk"),
-            grouped(needed as u64)
+            grouped(needed as u64),
+            counted(chunk_count, "chunk")
         );
         return Err(Failure::file(path, reason));
     }

@@ -1,5 +1,7 @@
 //! Text for a terminal of 80 columns.
 
+use std::ffi::OsStr;
+
 /// The columns of a terminal.
 pub const COLUMNS: usize = 80;
 
@@ -49,6 +51,19 @@ pub fn counted(number: usize, noun: &str) -> String {
     format!("{} {noun}{ending}", grouped(number as u64))
 }
 
+/// A name from outside, its control characters written out: it may be made to
+/// clear a screen or to forge a line.
+pub fn shown(name: impl AsRef<OsStr>) -> String {
+    let mut text = String::new();
+    for character in name.as_ref().to_string_lossy().chars() {
+        match character.is_control() {
+            true => text.extend(character.escape_default()),
+            false => text.push(character),
+        }
+    }
+    text
+}
+
 pub fn hexadecimal(bytes: &[u8]) -> String {
     bytes.iter().map(|byte| format!("{byte:02x}")).collect()
 }
@@ -77,6 +92,12 @@ mod tests {
         let numbers = [0, 999, 1000, 65_536, 67_108_864];
         let texts = numbers.map(grouped);
         assert_eq!(texts, ["0", "999", "1,000", "65,536", "67,108,864"]);
+    }
+
+    #[test]
+    fn shows_all_but_control_characters() {
+        let name = "a  b/\u{e9}\t\u{9b}\u{7f}\r";
+        assert_eq!(shown(name), "a  b/\u{e9}\\t\\u{9b}\\u{7f}\\r");
     }
 
     #[test]

@@ -37,3 +37,25 @@ fn existing_files_are_left_alone() {
     assert_eq!(folder.read("seal.bin"), b"mine");
     assert!(!std::fs::exists(folder.path("device.store")).unwrap());
 }
+
+#[test]
+fn file_in_the_place_of_the_folder() {
+    let folder = Folder::new("demo/file");
+    let place = folder.write("file", b"mine");
+    let run = run(&["demo", "--out", &place]);
+    assert_eq!(run.status, Some(2));
+    let expected = format!("pahyndoi: {place}: cannot make this folder: ");
+    assert!(run.error.starts_with(&expected), "{run:?}");
+}
+
+/// A link that leads nowhere is there too: no file is written beside it.
+#[cfg(unix)]
+#[test]
+fn existing_links_are_left_alone() {
+    let folder = Folder::new("demo/link");
+    std::os::unix::fs::symlink("nowhere", folder.path("seal.bin")).unwrap();
+    let run = run(&["demo", "--out", folder.whole()]);
+    assert_eq!(run.status, Some(2));
+    assert!(run.error.contains("seal.bin: is there already"), "{run:?}");
+    assert!(!std::fs::exists(folder.path("device.store")).unwrap());
+}

@@ -1,6 +1,7 @@
 //! `pahyndoi pack`.
 
 use std::fs;
+use std::process::Command;
 
 use crate::folder::Folder;
 use crate::run::{Run, run};
@@ -12,8 +13,8 @@ const VALUES: [(&str, &str); 4] = [
     ("--ratchet", "16"),
 ];
 
-/// Packs 4 chunks, with one flag's value replaced and further arguments.
-fn pack(folder: &Folder, replaced: (&str, &str), more: &[&str]) -> Run {
+/// What packs 4 chunks, with one flag's value replaced and further arguments.
+fn arguments(folder: &Folder, replaced: (&str, &str), more: &[&str]) -> Vec<String> {
     let (keys, out) = (folder.path("keys.bin"), folder.path("auditor.store"));
     let mut values = VALUES.to_vec();
     values.extend([("--keys", &*keys), ("--out", &*out)]);
@@ -27,7 +28,11 @@ fn pack(folder: &Folder, replaced: (&str, &str), more: &[&str]) -> Run {
         arguments.extend([flag, value]);
     }
     arguments.extend(more);
-    run(&arguments)
+    arguments.into_iter().map(String::from).collect()
+}
+
+fn pack(folder: &Folder, replaced: (&str, &str), more: &[&str]) -> Run {
+    run(&arguments(folder, replaced, more))
 }
 
 fn folder(name: &str, keys: &[u8]) -> Folder {
@@ -44,9 +49,8 @@ fn store_is_header_and_keys() {
     let folder = folder("store", &keys);
     let text = pack(&folder, NONE, &[]).ended(0);
     let path = folder.path("auditor.store");
-    let words = text.split_whitespace().collect::<Vec<_>>().join(" ");
-    let expected = format!("{path}: 146 bytes; 3 phases, 4 chunks for 64 items.");
-    assert_eq!(words, expected);
+    let expected = format!("{path}: 146 bytes; 3 phases, 4 chunks for 64 items.\n");
+    assert_eq!(text, expected);
     let header = [
         1, 0, 0x11, 0x22, 0x33, 0x44, 0x55, 0x66, 0x77, 3, 4, 0, 0, 0, 16, 0, 0, 0,
     ];
@@ -62,6 +66,34 @@ fn existing_store_is_left_unless_forced() {
     assert_eq!(folder.read("auditor.store"), b"old");
     pack(&folder, NONE, &["--force"]).ended(0);
     assert_eq!(folder.read("auditor.store").len(), 146);
+}
+
+#[test]
+fn name_with_spaces_stays_as_it_is() {
+    let folder = folder("spaces", &[7; 128]);
+    let path = folder.path("two  spaces.store");
+    let text = pack(&folder, ("--out", &path), &[]).ended(0);
+    assert!(text.starts_with(&format!("{path}: 146 bytes;")), "{text}");
+}
+
+/// Where files can't grow, as on a full disk, no part of a store stays.
+#[cfg(unix)]
+#[test]
+fn store_that_cannot_be_written_whole_is_removed() {
+    let folder = folder("short", &[7; 128]);
+    let output = Command::new("sh")
+        .args(["-c", "trap '' XFSZ; ulimit -f 0; exec \"$@\"", "sh"])
+        .arg(env!("CARGO_BIN_EXE_pahyndoi"))
+        .args(arguments(&folder, NONE, &[]))
+        .output()
+        .expect("a shell runs");
+    let error = String::from_utf8(output.stderr).expect("UTF-8");
+    assert_eq!(output.status.code(), Some(2));
+    assert!(
+        error.contains("auditor.store: cannot write it: "),
+        "{error}"
+    );
+    assert!(!fs::exists(folder.path("auditor.store")).unwrap());
 }
 
 #[cfg(unix)]
@@ -109,9 +141,9 @@ fn wrong_keys() {
     let mut zeros = vec![7; 128];
     zeros[64..96].fill(0);
     let wrong = [
-        (vec![], "has 0 bytes, and 4 chunks ask for 128"),
-        (vec![7; 127], "has 127 bytes, and 4 chunks ask for 128"),
-        (vec![7; 129], "has 129 bytes, and 4 chunks ask for 128"),
+        (vec![], "has 0 bytes, not the 128 of 4 chunks"),
+        (vec![7; 127], "has 127 bytes, not the 128 of 4 chunks"),
+        (vec![7; 129], "has 129 bytes, not the 128 of 4 chunks"),
         (zeros, "chunk 2 is all zeros, as if it were burned"),
     ];
     for (keys, reason) in wrong {

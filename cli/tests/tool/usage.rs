@@ -49,9 +49,11 @@ fn unknown_commands_and_flags() {
 
 #[test]
 fn wrong_arguments() {
-    let wrong: [(&[&str], &str); 7] = [
+    let wrong: [(&[&str], &str); 9] = [
         (&["audit"], "give a folder, or a file with --device, "),
         (&["audit", "a", "b"], "'b' is too much"),
+        (&["audit", ""], "an argument is empty"),
+        (&["dump", ""], "an argument is empty"),
         (&["audit", "--seal"], "--seal needs a value"),
         (&["audit", "--seal", "--json"], "--seal needs a value"),
         (&["audit", "--seal="], "--seal needs a value"),
@@ -66,8 +68,11 @@ fn wrong_arguments() {
 
 #[test]
 fn behind_two_dashes_nothing_is_a_flag() {
-    let error = run(&["dump", "--", "--json"]).failed();
-    assert_eq!(error, "pahyndoi: --json: no such file or folder\n");
+    for name in ["--json", "--help", "-h"] {
+        let error = run(&["dump", "--", name]).failed();
+        let expected = format!("pahyndoi: {name}: no such file or folder\n");
+        assert_eq!(error, expected);
+    }
 }
 
 #[cfg(unix)]
@@ -82,4 +87,28 @@ fn arguments_need_not_be_utf_8() {
     assert!(error.ends_with(": no such file or folder\n"), "{error}");
     let error = run(&[OsStr::new("dump"), OsStr::from_bytes(b"--\xff")]).failed();
     assert!(error.starts_with("pahyndoi: unknown flag '"), "{error}");
+    let error = run(&[OsStr::new("audit"), OsStr::from_bytes(b"--seal=\xff")]).failed();
+    let missing = "--device, --auditor, --logs, --lengths\n";
+    assert!(error.contains(missing), "{error}");
+}
+
+/// A name may hold what would clear a screen or forge a line of output.
+#[test]
+fn control_characters_are_written_out() {
+    let name = "\u{1b}[2J\nACCEPTED";
+    let written = "\\u{1b}[2J\\nACCEPTED";
+    let error = run(&[name]).failed();
+    assert!(error.contains(&format!("'{written}'\n")), "{error}");
+    let error = run(&["dump", name]).failed();
+    let expected = format!("pahyndoi: {written}: no such file or folder\n");
+    assert_eq!(error, expected);
+    for arguments in [
+        ["dump", "--\u{7}"],
+        ["demo", "\u{7}"],
+        ["pack", "--id=\u{7}"],
+    ] {
+        let error = run(&arguments).failed();
+        assert!(error.contains("\\u{7}"), "{error}");
+        assert!(!error.contains('\u{7}'), "{error}");
+    }
 }

@@ -20,7 +20,7 @@ use super::evidence::Evidence;
 use super::failure::Failure;
 use super::picture;
 use super::store::LOG_CAPACITY;
-use super::text::{counted, hexadecimal, wrapped};
+use super::text::{counted, hexadecimal, shown, wrapped};
 use super::verdict::Verdict;
 
 const SYNTAX: Syntax = Syntax {
@@ -153,9 +153,10 @@ fn gap(evening: &Evidence, noon: &Evidence, out: &mut dyn Write) -> Result<(), F
 }
 
 fn write_folder(evening: &Evidence, folder: &Path, out: &mut dyn Write) -> Result<(), Failure> {
-    fs::create_dir_all(folder).map_err(|error| Failure::file(folder, error))?;
+    fs::create_dir_all(folder)
+        .map_err(|error| Failure::file(folder, format!("cannot make this folder: {error}")))?;
     evening.write(folder)?;
-    let place = folder.display();
+    let place = shown(folder);
     writeln!(out, "\nThe evening's files are in {place}.")?;
     writeln!(out, "Try 'pahyndoi audit {place}'.")?;
     Ok(())
