@@ -1,7 +1,7 @@
 /*
  * Sealed phase logs: SHA-256 (FIPS 180-4), HMAC-SHA-256 (RFC 2104, FIPS
  * 198-1), the sealer that opens a key store, appends and closes, and the
- * audit.
+ * audit. The archive asks for memcpy and memset alone, and allocates nothing.
  */
 
 #ifndef PAHYNDOI_H
@@ -170,6 +170,9 @@ typedef struct pahyndoi_state pahyndoi_state;
  *
  * Refused in this order: 2, 3, 4, 5, 6 (of 6, a seal length above seal_size
  * alone). A refused open leaves a state of zeros.
+ *
+ * Close before the state is lost, as at a loss of power: the keys left in a
+ * half-used chunk go with it, and the audit then refuses what comes home.
  *
  * lengths_count counts entries, not bytes. Only the state is written.
  */

@@ -120,6 +120,17 @@ fn unfit_states_and_full_logs() {
     assert_eq!(device.close(), Err(Refusal(6)));
 }
 
+/// As the header warns: the keys left in a half-used chunk go with the state.
+#[test]
+fn state_lost_half_way_is_refused_by_the_audit() {
+    let mut device = Device::new(200);
+    device.append(1, b"first").expect("a free key");
+    device.state = device.open(&[5], 50).expect("a burned chunk at the front");
+    assert_eq!(device.close(), Ok(0));
+    let rejected = device.audit().expect_err("a key that sealed nothing");
+    assert_eq!(rejected.refusal, Refusal(22));
+}
+
 #[test]
 fn rejected_names_rule_and_item() {
     let mut device = Device::new(200);
