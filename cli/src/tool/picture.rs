@@ -14,9 +14,9 @@ const GAPS_LISTED: usize = 6;
 const OUTSIDE_LISTED: usize = 8;
 
 const LEGEND: &str = "\
-Coverage of the logs. Each cell of a bar stands for equally many bytes:
-a-z the item at its first byte, . no item, - an item on a part of it,
-* bytes that items share, ! the refused item.
+Coverage of the logs. Each cell of a bar stands for equally many bytes, give or
+take one: a-z the item at its first byte (after z comes a), . no item, - an item
+on a part of it, * bytes that items share, ! the refused item.
 ";
 
 /// Draws all logs, and tells what could not be drawn.

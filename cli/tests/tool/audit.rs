@@ -19,9 +19,9 @@ fn accepted_with_picture() {
     let expected = "\
 ACCEPTED: 6 items.
 
-Coverage of the logs. Each cell of a bar stands for equally many bytes:
-a-z the item at its first byte, . no item, - an item on a part of it,
-* bytes that items share, ! the refused item.
+Coverage of the logs. Each cell of a bar stands for equally many bytes, give or
+take one: a-z the item at its first byte (after z comes a), . no item, - an item
+on a part of it, * bytes that items share, ! the refused item.
 
 Phase 1: 3 items, 30 of 30 bytes covered without a gap
   |aaaaaaaaaabbbbbbbbbbcccccccccc|
