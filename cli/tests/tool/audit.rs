@@ -175,19 +175,13 @@ fn file_in_the_place_of_a_folder() {
     assert!(error.ends_with(expected), "{error}");
 }
 
-/// Every file empty in turn is refused by the rule that reads it first.
-#[test]
-fn empty_files() {
-    let rules = [
-        ("device.store", 2),
-        ("auditor.store", 12),
-        ("logs.bin", 3),
-        ("lengths.bin", 5),
-        ("seal.bin", 22),
-    ];
+/// Every file in turn, brought to this length, is refused by its rule.
+fn resized_files(rules: &[(&str, u32)], length: usize) {
     for (name, rule) in rules {
-        let folder = small_folder(&format!("empty-{name}"));
-        folder.write(name, &[]);
+        let folder = small_folder(&format!("{length}-bytes-of-{name}"));
+        let mut bytes = folder.read(name);
+        bytes.resize(length, 1);
+        folder.write(name, &bytes);
         let text = folder.audit(&[]).ended(1);
         assert!(
             text.starts_with(&format!("REFUSED by rule {rule}:")),
@@ -196,26 +190,23 @@ fn empty_files() {
     }
 }
 
+const RULES_OF_LENGTH: [(&str, u32); 4] = [
+    ("device.store", 2),
+    ("auditor.store", 12),
+    ("logs.bin", 3),
+    ("lengths.bin", 5),
+];
+
+#[test]
+fn empty_files() {
+    resized_files(&RULES_OF_LENGTH, 0);
+    resized_files(&[("seal.bin", 22)], 0);
+}
+
 /// Longer than any store, log memory or list can be: still the audit's answer.
 #[test]
 fn long_files() {
-    let rules = [
-        ("device.store", 2),
-        ("auditor.store", 12),
-        ("logs.bin", 3),
-        ("lengths.bin", 5),
-    ];
-    for (name, rule) in rules {
-        let folder = small_folder(&format!("long-{name}"));
-        let mut bytes = folder.read(name);
-        bytes.resize(100_000, 1);
-        folder.write(name, &bytes);
-        let text = folder.audit(&[]).ended(1);
-        assert!(
-            text.starts_with(&format!("REFUSED by rule {rule}:")),
-            "{text}"
-        );
-    }
+    resized_files(&RULES_OF_LENGTH, 100_000);
 }
 
 #[test]

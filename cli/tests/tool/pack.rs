@@ -1,7 +1,6 @@
 //! `pahyndoi pack`.
 
 use std::fs;
-use std::process::Command;
 
 use crate::folder::Folder;
 use crate::run::{Run, run};
@@ -80,6 +79,7 @@ fn name_with_spaces_stays_as_it_is() {
 #[cfg(unix)]
 #[test]
 fn store_that_cannot_be_written_whole_is_removed() {
+    use std::process::Command;
     let folder = folder("short", &[7; 128]);
     let output = Command::new("sh")
         .args(["-c", "trap '' XFSZ; ulimit -f 0; exec \"$@\"", "sh"])
