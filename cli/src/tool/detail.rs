@@ -220,3 +220,55 @@ fn gap_detail(material: &Material) -> Option<String> {
         counted(log.bytes.len(), "byte")
     ))
 }
+
+#[cfg(test)]
+mod tests {
+    use pahyndoi::Refusal;
+
+    use super::super::coverage::tests::{lengths, seal_file};
+    use super::*;
+
+    const HEADER: Header = Header {
+        id: [0; 8],
+        phases: 2,
+        chunks: 1,
+        ratchet: 32,
+    };
+
+    /// What is said of an item among entries of these areas, in logs of 100
+    /// bytes.
+    fn words(rule: u32, item: u32, areas: &[(u8, u32, u32)]) -> String {
+        let mut store = HEADER.to_bytes();
+        store.resize(50, 0);
+        let material = Material {
+            device_store: &store,
+            auditor_store: &[],
+            logs: &[],
+            lengths: &lengths(&[100, 100]),
+            seal_file: &seal_file(areas),
+        };
+        let rejected = Rejected {
+            refusal: Refusal(rule),
+            item: Some(item),
+        };
+        detail(&material, &rejected).expect("words")
+    }
+
+    #[test]
+    fn areas_that_touch_or_are_of_another_phase_share_nothing() {
+        let areas = [(2, 10, 10), (1, 20, 5), (1, 5, 5), (1, 15, 4), (1, 10, 10)];
+        let words = words(19, 4, &areas);
+        assert!(
+            words.ends_with(" Item 3 has offset 15, 4 bytes."),
+            "{words}"
+        );
+    }
+
+    #[test]
+    fn covered_items_do_not_wait() {
+        let areas = [(1, 0, 10), (1, 30, 10), (2, 50, 5), (1, 10, 10), (1, 60, 5)];
+        let words = words(20, 4, &areas);
+        let expected = " 20 of 100 bytes are covered so far, and 2 items wait.";
+        assert!(words.ends_with(expected), "{words}");
+    }
+}

@@ -67,8 +67,9 @@ mod tests {
 
     #[test]
     fn text_is_escaped() {
-        let text = Value::text("a\"b\\c\n\u{1}\u{7f}\u{e9}/");
-        assert_eq!(text.to_string(), r#""a\"b\\c\u000a\u0001\u007fé/""#);
+        let text = Value::text("a\"b\\c\n\u{1}\u{7f}\u{9b}\u{e9}/");
+        let expected = r#""a\"b\\c\u000a\u0001\u007f\u009bé/""#;
+        assert_eq!(text.to_string(), expected);
     }
 
     #[test]

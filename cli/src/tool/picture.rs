@@ -206,6 +206,42 @@ Phase 1: 2 items, 4 of 12 bytes covered without a gap
         assert!(picture.contains("! item 2: 6-7"));
     }
 
+    /// With two bytes to a cell, the second one alone.
+    #[test]
+    fn one_byte_marks_its_cell() {
+        let areas = [(1, 0, 4), (1, 3, 3), (1, 9, 1)];
+        let picture = log_picture(128, &areas, Some(2));
+        assert!(picture.contains("|a*b.!..."), "{picture}");
+    }
+
+    #[test]
+    fn six_gaps_are_listed() {
+        for (gaps, more) in [
+            (6, None),
+            (7, Some("  and 1 more gap")),
+            (8, Some("  and 2 more gaps")),
+        ] {
+            let areas: Vec<_> = (0..gaps).map(|index| (1, 2 * index, 1)).collect();
+            let picture = log_picture(2 * gaps, &areas, None);
+            assert_eq!(picture.matches("gap: ").count(), 6, "{picture}");
+            assert_eq!(picture.lines().find(|line| line.contains("more gap")), more);
+        }
+    }
+
+    #[test]
+    fn eight_items_outside_are_listed() {
+        let eight = outside_sentence(&[0, 1, 2, 3, 4, 5, 6, 7]);
+        assert!(
+            eight.ends_with("8 items (0, 1, 2, 3, 4, 5, 6, 7)."),
+            "{eight}"
+        );
+        let nine = outside_sentence(&[0, 1, 2, 3, 4, 5, 6, 7, 8]);
+        assert!(
+            nine.ends_with("9 items (0, 1, 2, 3, 4, 5, 6, 7, ...)."),
+            "{nine}"
+        );
+    }
+
     #[test]
     fn refused_item_is_listed_wherever_it_is() {
         let areas: Vec<_> = (0..40).map(|index| (1, index, 1)).collect();

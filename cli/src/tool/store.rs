@@ -129,6 +129,10 @@ mod tests {
             phases: 0,
             ..HEADER
         };
+        let nine_phases = Header {
+            phases: 9,
+            ..HEADER
+        };
         let long_ratchet = Header {
             ratchet: 257,
             ..HEADER
@@ -141,6 +145,10 @@ mod tests {
             (vec![1; 17], "has 17 bytes, and its header takes 18"),
             (vec![9; 50], "has kind 9, and a store has kind 1"),
             (store(no_phases), "names 0 phases, and 1 to 8 are possible"),
+            (
+                store(nine_phases),
+                "names 9 phases, and 1 to 8 are possible",
+            ),
             (
                 store(long_ratchet),
                 "names 257 keys from a chunk, and 1 to 256 are possible",

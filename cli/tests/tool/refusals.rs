@@ -18,11 +18,23 @@ fn refused_files(rule: u32, item: Option<u32>, words: &str, files: &Files) {
     let expected = format!("REFUSED by rule {rule}{at_item}: {words}");
     let text = folder.audit(&["--no-picture"]).ended(1);
     assert_eq!(joined(&text), expected);
-    assert_narrow(&folder.audit(&[]).ended(1));
+    let picture = folder.audit(&[]).ended(1);
+    assert_narrow(&picture);
+    let line = picture.lines().find(|line| line.ends_with("checked."));
+    assert_eq!(line, unchecked(rule, item).as_deref());
     let json = folder.audit(&["--json"]).ended(1);
     let item = item.map_or("null".to_string(), |item| item.to_string());
     let start = format!(r#"{{"verdict":"refused","items":null,"rule":{rule},"item":{item},"#);
     assert!(json.starts_with(&start), "{json}");
+}
+
+/// What stands below the picture of refused material.
+fn unchecked(rule: u32, item: Option<u32>) -> Option<String> {
+    match item {
+        Some(item) => Some(format!("Items behind item {item} were not checked.")),
+        None if rule < 15 => Some("No item was checked.".to_string()),
+        None => None,
+    }
 }
 
 #[test]
@@ -133,11 +145,13 @@ fn rule_18() {
          ratchet offset 1. The area ends at 30, and the phase's length is 29."
     );
     refused(18, Some(4), &words, |files| files.set_lengths(&[29, 8]));
-    let words = format!(
-        "{rule} 0 of the seal file stands an entry of phase 0, offset 0, 10 bytes, chunk 0, \
-         ratchet offset 0. Phases are 1 to 2."
-    );
-    refused(18, Some(0), &words, |files| files.seal[1] = 0);
+    for phase in [0, 3, 255] {
+        let words = format!(
+            "{rule} 0 of the seal file stands an entry of phase {phase}, offset 0, 10 bytes, \
+             chunk 0, ratchet offset 0. Phases are 1 to 2."
+        );
+        refused(18, Some(0), &words, |files| files.seal[1] = phase);
+    }
     let words = format!(
         "{rule} 0 of the seal file stands an entry of phase 1, offset 0, 0 bytes, chunk 0, \
          ratchet offset 0. Data lengths are 1 to 512."
@@ -159,8 +173,8 @@ fn rule_20() {
     let entries = [(1, &b"x"[..]); 17];
     let files = sealed(store(1, 1, 17), &[100], &entries);
     let words = "after taking the item, over 16 items of its phase wait. At byte 800 of the seal \
-                 file stands an entry of phase 1, offset 116, 1 byte, chunk 0, ratchet offset 16. Of \
-                 the phase, 0 of 117 bytes are covered so far, and 17 items wait.";
+                 file stands an entry of phase 1, offset 116, 1 byte, chunk 0, ratchet offset 16. \
+                 Of the phase, 0 of 117 bytes are covered so far, and 17 items wait.";
     refused_files(20, Some(16), words, &files);
 }
 
