@@ -4,7 +4,7 @@
 //!
 //! The README has an example, which runs as a test of this package.
 
-mod desk;
+mod auditor;
 mod ffi;
 mod hash;
 pub mod model;
@@ -12,7 +12,7 @@ pub mod plain;
 mod refusal;
 mod sealer;
 
-pub use desk::{Material, Rejected, audit};
+pub use auditor::{Material, Rejected, audit};
 pub use ffi::{State, append_raw, audit_raw, close_raw, hmac_sha256_raw, open_raw, sha256_raw};
 pub use hash::{DIGEST_LENGTH, LENGTH_LIMIT, hmac_sha256, sha256};
 pub use refusal::Refusal;

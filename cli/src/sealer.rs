@@ -1,4 +1,4 @@
-//! What a cabinet does: open, append and close.
+//! What a device does: open, append and close.
 
 use crate::{Refusal, State, append_raw, close_raw, open_raw};
 

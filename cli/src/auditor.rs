@@ -1,4 +1,4 @@
-//! What the desk does: the audit.
+//! What an auditor does: the audit.
 
 use std::error::Error;
 use std::fmt;
@@ -50,7 +50,7 @@ impl Error for Rejected {}
 ///
 /// For every input the answer is the one that the scheme's definition of the
 /// audit gives. Material as a controller's history of calls left it is
-/// accepted with its true count.
+/// accepted with its true count, where no chunk is half used.
 pub fn audit(material: &Material) -> Result<u64, Rejected> {
     let Material {
         device_store,
