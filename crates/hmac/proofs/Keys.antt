@@ -10,7 +10,7 @@ use lib.Dec.{leb, lit≤}
 use lib.Bits.{bitXor}
 use lib.ListN.{length, getD, take, drop, set, replicate, length-append, length-map, length-replicate, replicate-append-replicate}
 use lib.Seq.{drop-cons, take-suc, length-take-le, append-snoc, set-at, getD-at, take-all, drop-length, drop-at}
-use Rattle.sha256.specs.Fips.{sha256}
+use Rattle.compression.specs.Fips.{sha256}
 use Rattle.sha256.specs.State.{Stands}
 use Rattle.sha256.specs.declared.state.Sha256.{Sha256}
 use Rattle.hmac.specs.Rfc2104.{choose, shortened, padded, masked}

@@ -5,7 +5,7 @@ use Prim.Native.Nat.{ℕ, _-_}
 use lib.Dec.{leb}
 use lib.ListN.{length, replicate}
 use lib.Bits.{bitXor}
-use Rattle.sha256.specs.Fips.{sha256}
+use Rattle.compression.specs.Fips.{sha256}
 
 -- the byte length of H's blocks, and the bytes that ipad and opad repeat
 abbrev pub B : ℕ

@@ -3,15 +3,16 @@
 use mathlib.Core.Path.{_≡_, refl, sym, ap, ap₂, subst, _∙_}
 use mathlib.Core.List.{List, [], _∷_, _++_, append-assoc, append-nil}
 use Prim.Native.Nat.{ℕ, zero, suc, _+_, _-_, _*_, _/_, _%_, _^_, _≤_, _<_}
-use native.Mathlib.Nat.{add-zero, add-suc, mul-add, le-refl, mod-lt, one-le-pow, pow-suc}
+use native.Mathlib.Nat.{mul-add, le-refl, mod-lt, one-le-pow, pow-suc}
 use lib.Dec.{lit<}
 use native.Mathlib.Omega.{arith}
 use lib.Arith.{digits-div, digits-mod, mod-mul}
 use lib.ListN.{length, take, drop, set, replicate, length-append, length-drop, length-replicate, length-set, drop-of-length-le, replicate-append-replicate, take-append-drop}
-use lib.Seq.{take-append-le, drop-append-le, drop-drop, take-all, take-at, drop-at, take-append-seam, drop-append-add, set-append-left, set-append-seam, length-take-le}
-use Rattle.sha256.specs.Fips.{bigEndian, block, compress, hashed, pad, sha256, zeroBytes, digest, H₀}
+use lib.Seq.{drop-append-le, drop-drop, take-all, take-at, drop-at, take-append-seam, drop-append-add, set-append-left, set-append-seam, length-take-le}
+use Rattle.compression.specs.Fips.{bigEndian, hashed, pad, sha256, zeroBytes, digest, H₀}
+use Rattle.compression.specs.declared.words.Words.{Words}
+use Rattle.compression.proofs.Hashed.{hashed-append, hashed-add}
 use Rattle.sha256.specs.State.{Held, Stands}
-use Rattle.sha256.specs.declared.words.Words.{Words}
 use Rattle.sha256.specs.declared.state.Sha256.{Sha256}
 
 -- a part up to the end
@@ -29,29 +30,6 @@ byte-digits (suc w) n =
 
 pub bytes-mod : (w a b : ℕ) → a % 256 ^ w ≡ b % 256 ^ w → bigEndian w a ≡ bigEndian w b
 bytes-mod w a b e = sym (byte-digits w a) ∙ ap (bigEndian w) e ∙ byte-digits w b
-
--- ---- blocks
-
-block-append : (p q : List ℕ) (i : ℕ) → 64 * i + 64 ≤ length p → block (p ++ q) i ≡ block p i
-unfolding block
-block-append p q i h =
-    ap (take 64) (drop-append-le (64 * i) p q (omega arith)) ∙ take-append-le 64 (drop (64 * i) p) q (simp length-drop (omega arith))
-
-block-drop : (m : List ℕ) (a i : ℕ) → block (drop (64 * a) m) i ≡ block m (a + i)
-unfolding block
-block-drop m a i = ap (take 64) (drop-drop (64 * i) (64 * a) m ∙ ap (λ (k : ℕ). drop k m) (sym (mul-add 64 a i)))
-
--- what follows does not change the blocks before it
-pub hashed-append : (s : Words) (p q : List ℕ) (n : ℕ) → 64 * n ≤ length p → hashed s (p ++ q) n ≡ hashed s p n
-unfolding hashed
-hashed-append s p q zero h = refl
-hashed-append s p q (suc n) h = ap₂ compress (hashed-append s p q n (omega arith)) (block-append p q n (omega arith))
-
--- the blocks from block a on are those of what lies behind them
-pub hashed-add : (s : Words) (m : List ℕ) (a b : ℕ) → hashed s m (a + b) ≡ hashed (hashed s m a) (drop (64 * a) m) b
-unfolding hashed
-hashed-add s m a zero = ap (hashed s m) (add-zero a)
-hashed-add s m a (suc b) = ap (hashed s m) (add-suc a b) ∙ ap₂ compress (hashed-add s m a b) (sym (block-drop m a b))
 
 -- the hash value after every whole block of m
 abbrev pub over : Words → List ℕ → Words
@@ -114,16 +92,16 @@ module _ (m p : List ℕ) where
 
 -- ---- a block with zeros behind the bytes that it holds
 
-abbrev pub filled : List ℕ → List ℕ
-filled p = p ++ replicate (64 - length p) 0
+abbrev pub zeroFilled : List ℕ → List ℕ
+zeroFilled p = p ++ replicate (64 - length p) 0
 
-length-filled : (p : List ℕ) → length p ≤ 64 → length (filled p) ≡ 64
+length-filled : (p : List ℕ) → length p ≤ 64 → length (zeroFilled p) ≡ 64
 length-filled p h = omega (arith, length-append p (replicate (64 - length p) 0), length-replicate {A = ℕ} (64 - length p) 0)
 
-filled-full : (p : List ℕ) → length p ≡ 64 → filled p ≡ p
+filled-full : (p : List ℕ) → length p ≡ 64 → zeroFilled p ≡ p
 filled-full p h = ap (λ (k : ℕ). p ++ replicate (64 - k) 0) h ∙ append-nil p
 
-pub filled-rest : (m : List ℕ) → filled (rest m) ≡ rest m ++ replicate (64 - length m % 64) 0
+pub filled-rest : (m : List ℕ) → zeroFilled (rest m) ≡ rest m ++ replicate (64 - length m % 64) 0
 filled-rest m = ap (λ (k : ℕ). rest m ++ replicate (64 - k) 0) (length-rest m)
 
 -- d with s written at a place
@@ -136,7 +114,7 @@ zeros k j e = ap (λ (i : ℕ). replicate {A = ℕ} i 0) (sym e) ∙ sym (replic
 zeros-append : (k j : ℕ) {n : ℕ} (e : List ℕ) → k + j ≡ n → replicate k 0 ++ (replicate j 0 ++ e) ≡ replicate n 0 ++ e
 zeros-append k j e h = sym (append-assoc (replicate k 0) (replicate j 0) e) ∙ ap (λ (l : List ℕ). l ++ e) (sym (zeros k j h))
 
-pub put-filled : (p q : List ℕ) → length p + length q ≤ 64 → put (filled p) (length p) q ≡ filled (p ++ q)
+pub put-filled : (p q : List ℕ) → length p + length q ≤ 64 → put (zeroFilled p) (length p) q ≡ zeroFilled (p ++ q)
 put-filled p q h =
     let left = 64 - length (p ++ q) in
     let size : length q + left ≡ 64 - length p = omega (arith, length-append p q) in
@@ -146,7 +124,7 @@ put-filled p q h =
     ∙ drop-at (replicate (length q) 0) (replicate left 0) (length q) (length-replicate (length q) 0))
 
 -- bytes that fill no block are all held
-pub held-short : {s : Words} (p : List ℕ) {n : ℕ} {r : Sha256} → length p < 64 → r .words ≡ s → r .block ≡ filled p → r .length ≡ n → Held s p n r
+pub held-short : {s : Words} (p : List ℕ) {n : ℕ} {r : Sha256} → length p < 64 → r .words ≡ s → r .block ≡ zeroFilled p → r .length ≡ n → Held s p n r
 unfolding hashed
 held-short {s} p h w b e =
     let none : length p / 64 ≡ 0 = omega arith in
@@ -174,30 +152,30 @@ marked : (p e : List ℕ) (k : ℕ) → set (p ++ replicate (suc k) 0 ++ e) (len
 marked p e k =
     ap (λ (l : List ℕ). set l (length p) 128) (append-assoc p (replicate (suc k) 0) e) ∙ set-append-seam p 0 (replicate k 0 ++ e) 128
 
-marked-filled : (p e : List ℕ) → length p < 64 → set (filled p) (length p) 128 ++ e ≡ p ++ (128 ∷ replicate (63 - length p) 0 ++ e)
+marked-filled : (p e : List ℕ) → length p < 64 → set (zeroFilled p) (length p) 128 ++ e ≡ p ++ (128 ∷ replicate (63 - length p) 0 ++ e)
 marked-filled p e h =
     let room : 64 - length p ≡ suc (63 - length p) = omega arith in
-    sym (set-append-left (filled p) e (length p) 128 (omega (arith, length-filled p (omega arith))))
+    sym (set-append-left (zeroFilled p) e (length p) 128 (omega (arith, length-filled p (omega arith))))
     ∙ ap (λ (j : ℕ). set (p ++ replicate j 0 ++ e) (length p) 128) room
     ∙ marked p e (63 - length p)
 
 -- a last block that has room behind the bytes p, and two blocks where it has none
 module _ (p : List ℕ) (n : ℕ) where
-  one-block : length p < 56 → set (put (filled p) 56 (bigEndian 8 n)) (length p) 128 ≡ p ++ (128 ∷ replicate (55 - length p) 0 ++ bigEndian 8 n)
+  one-block : length p < 56 → set (put (zeroFilled p) 56 (bigEndian 8 n)) (length p) 128 ≡ p ++ (128 ∷ replicate (55 - length p) 0 ++ bigEndian 8 n)
   one-block h =
       let k = 55 - length p in
       let room : List ℕ = replicate (suc k) 0 in
       let size : length (p ++ room) ≡ 56 = omega (arith, length-append p room, length-replicate {A = ℕ} (suc k) 0) in
-      let front : take 56 (filled p) ≡ p ++ room =
+      let front : take 56 (zeroFilled p) ≡ p ++ room =
       ap (λ (l : List ℕ). take 56 (p ++ l)) (zeros (suc k) 8 {n = 64 - length p} (omega arith))
       ∙ ap (take 56) (sym (append-assoc p room (replicate 8 0)))
       ∙ take-at (p ++ room) (replicate 8 0) 56 size in
-      let back : drop 64 (filled p) ≡ [] = drop-of-length-le (filled p) {i = 64} (omega (arith, length-filled p (omega arith))) in
+      let back : drop 64 (zeroFilled p) ≡ [] = drop-of-length-le (zeroFilled p) {i = 64} (omega (arith, length-filled p (omega arith))) in
       ap₂ (λ (f g : List ℕ). set (f ++ bigEndian 8 n ++ g) (length p) 128) front back
       ∙ ap (λ (l : List ℕ). set l (length p) 128) (append-nil (p ++ room ++ bigEndian 8 n))
       ∙ marked p (bigEndian 8 n) k
 
-  two-blocks : length p < 64 → set (filled p) (length p) 128 ++ put (replicate 64 0) 56 (bigEndian 8 n) ≡ p ++ (128 ∷ replicate (119 - length p) 0 ++ bigEndian 8 n)
+  two-blocks : length p < 64 → set (zeroFilled p) (length p) 128 ++ put (replicate 64 0) 56 (bigEndian 8 n) ≡ p ++ (128 ∷ replicate (119 - length p) 0 ++ bigEndian 8 n)
   two-blocks h =
       marked-filled p (replicate 56 0 ++ bigEndian 8 n) h
       ∙ ap (λ (l : List ℕ). p ++ (128 ∷ l)) (zeros-append (63 - length p) 56 {n = 119 - length p} (bigEndian 8 n) (omega arith))
@@ -208,10 +186,10 @@ module _ {s : Sha256} (m : List ℕ) (h : Stands s m) where
   pub stands-place : s .length % 64 ≡ length (rest m)
   stands-place = omega (arith, length-rest m, h .counted)
 
-  pub stands-block : s .block ≡ filled (rest m)
+  pub stands-block : s .block ≡ zeroFilled (rest m)
   stands-block = h .pending ∙ sym (filled-rest m)
 
-  pub stands-put : (q : List ℕ) → s .length % 64 + length q ≤ 64 → put (s .block) (s .length % 64) q ≡ filled (rest m ++ q)
+  pub stands-put : (q : List ℕ) → s .length % 64 + length q ≤ 64 → put (s .block) (s .length % 64) q ≡ zeroFilled (rest m ++ q)
   stands-put q f =
       ap₂ (λ (b : List ℕ) (k : ℕ). put b k q) stands-block stands-place
       ∙ put-filled (rest m) q (omega (arith, stands-place))
@@ -284,7 +262,7 @@ pub stands-rest : {v : Words} {p : List ℕ} {k : ℕ} (m : List ℕ) → v ≡ 
 stands-rest {p = p} m e f g =
     record {
       words = e;
-      pending = put-filled [] p (omega (arith, ap length f, length-rest m)) ∙ ap filled f ∙ filled-rest m;
+      pending = put-filled [] p (omega (arith, ap length f, length-rest m)) ∙ ap zeroFilled f ∙ filled-rest m;
       counted = g;
     }
 

@@ -5,7 +5,7 @@ use mathlib.Core.List.{List}
 use Prim.Native.Nat.{ℕ}
 use lib.Dec.{leb}
 use lib.ListN.{length, replicate}
-use Rattle.sha256.specs.Fips.{sha256}
+use Rattle.compression.specs.Fips.{sha256}
 use Rattle.sha256.specs.declared.Answer.{Answer}
 use Rattle.sha256.specs.declared.Outcome.{Outcome}
 use Rattle.sha256.specs.declared.Outcome.the-variants.{Done, TooLong}

@@ -1,6 +1,4 @@
--- What the crate's contracts cite: the standard, what a hash state stands for, and what the public call answers.
-pub mod Fips
-pub mod Constants
-pub mod Compression
+-- What the crate's contracts cite besides the standard, which is `compression`'s: what a hash state stands for, and what the public call
+-- answers.
 pub mod State
 pub mod Call

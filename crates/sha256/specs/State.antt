@@ -3,9 +3,9 @@ use mathlib.Core.Path.{_≡_}
 use mathlib.Core.List.{List, _++_}
 use Prim.Native.Nat.{ℕ, _-_, _*_, _/_, _%_, _^_}
 use lib.ListN.{length, drop, replicate}
-use Rattle.sha256.specs.Fips.{H₀, hashed}
+use Rattle.compression.specs.Fips.{H₀, hashed}
 use Rattle.sha256.specs.declared.state.Sha256.{Sha256}
-use Rattle.sha256.specs.declared.words.Words.{Words}
+use Rattle.compression.specs.declared.words.Words.{Words}
 
 -- s is what a part comes to from the hash value before it: its whole blocks hashed, the bytes after them held with zeros behind
 -- them, and the count of bytes that is given

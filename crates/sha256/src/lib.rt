@@ -1,9 +1,7 @@
 // SHA-256 (FIPS 180-4): a hash state that takes a message part after part, and a call that is handed it whole.
 ghost use Rattle.sha256.specs.Call.{Hashes};
 
-mod compression;
 pub mod state;
-pub mod words;
 
 use state::Sha256;
 

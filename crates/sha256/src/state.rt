@@ -3,10 +3,10 @@ ghost use mathlib.Core.Path.{_≡_};
 ghost use mathlib.Core.List.{List, [], _++_};
 ghost use Prim.Native.Nat.{ℕ, _+_, _*_, _/_, _%_, _^_, _≤_, _<_};
 ghost use lib.ListN.{length, take, drop};
-ghost use Rattle.sha256.specs.Fips as Fips;
+ghost use Rattle.compression.specs.Fips as Fips;
 ghost use Rattle.sha256.specs.State.{Held, Stands};
-use crate::compression::blocks;
-use crate::words::Words;
+use compression::blocks;
+use compression::words::Words;
 
 // The words after the whole blocks, the bytes after them with zeros behind them, and the length so far.
 pub struct Sha256 {
@@ -90,17 +90,17 @@ impl Sha256 {
         ensures { λ r. ⌜ ((m : List ℕ) → Stands self m → r ≡ Fips.sha256 m) ⌝ }
     {
         let n = (self.length % 64) as usize;
-        let bits = length_bytes(self.length);
+        let count = self.length;
         let words = self.words;
         let block = self.block;
         if n < 56 {
-            let mut end = put(block, 56, &bits);
+            let mut end = with_length(block, count);
             end[n] = 128;
             return digest(blocks(words, &end));
         }
         let mut last = block;
         last[n] = 128;
-        let end = put([0; 64], 56, &bits);
+        let end = with_length([0; 64], count);
         digest(blocks(blocks(words, &last), &end))
     }
 
@@ -120,9 +120,7 @@ impl Sha256 {
         ensures { λ r. ⌜ ((m : List ℕ) → Stands self m → length m ≡ 64 → r ≡ Fips.sha256 (m ++ part)) ⌝ }
     {
         let words = self.words;
-        let bits = length_bytes(96);
-        let block = put([0; 64], 0, &part);
-        let mut end = put(block, 56, &bits);
+        let mut end = with_length(put([0; 64], 0, &part), 96);
         end[32] = 128;
         digest(blocks(words, &end))
     }
@@ -144,7 +142,9 @@ fn whole(words: Words, part: &[u8], length: u64) -> Sha256
 // out here once, and nothing copies it.
 fn ended(words: Words, rest: &[u8], count: u64) -> [u8; 32]
     requires { ⌜ length (now rest) < 64 ⌝ }
-    ensures { λ r. ⌜ ((m : List ℕ) → words ≡ Fips.hashed Fips.H₀ m (length m / 64) → now (rest .entry) ≡ drop (64 * (length m / 64)) m → count ≡ length m % 2 ^ 64 → r ≡ Fips.sha256 m) ⌝ }
+    ensures { λ r. ⌜ ((m : List ℕ) → words ≡ Fips.hashed Fips.H₀ m (length m / 64)
+        → now (rest .entry) ≡ drop (64 * (length m / 64)) m
+        → count ≡ length m % 2 ^ 64 → r ≡ Fips.sha256 m) ⌝ }
 {
     let n = rest.len();
     if n < 56 {
@@ -162,16 +162,14 @@ fn ended(words: Words, rest: &[u8], count: u64) -> [u8; 32]
 fn with_length(block: [u8; 64], count: u64) -> [u8; 64]
     ensures { λ r. ⌜ r ≡ take 56 block ++ Fips.bigEndian 8 (8 * count) ++ drop 64 block ⌝ }
 {
-    let bits = length_bytes(count);
+    let mut n = count % 0x2000000000000000 * 8;
     let mut b = block;
-    b[56] = bits[0];
-    b[57] = bits[1];
-    b[58] = bits[2];
-    b[59] = bits[3];
-    b[60] = bits[4];
-    b[61] = bits[5];
-    b[62] = bits[6];
-    b[63] = bits[7];
+    let mut i = 64;
+    while 56 < i {
+        i -= 1;
+        b[i] = (n % 256) as u8;
+        n = n / 256;
+    }
     b
 }
 
@@ -187,23 +185,6 @@ pub fn put(block: [u8; 64], at: usize, part: &[u8]) -> [u8; 64]
         i += 1;
     }
     b
-}
-
-// The length in bits, as 8 bytes.
-fn length_bytes(length: u64) -> [u8; 8]
-    ensures { λ r. ⌜ r ≡ Fips.bigEndian 8 (8 * length) ⌝ }
-{
-    let n = length % 0x2000000000000000 * 8;
-    [
-        (n / 256 / 256 / 256 / 256 / 256 / 256 / 256 % 256) as u8,
-        (n / 256 / 256 / 256 / 256 / 256 / 256 % 256) as u8,
-        (n / 256 / 256 / 256 / 256 / 256 % 256) as u8,
-        (n / 256 / 256 / 256 / 256 % 256) as u8,
-        (n / 256 / 256 / 256 % 256) as u8,
-        (n / 256 / 256 % 256) as u8,
-        (n / 256 % 256) as u8,
-        (n % 256) as u8,
-    ]
 }
 
 fn digest(s: Words) -> [u8; 32]

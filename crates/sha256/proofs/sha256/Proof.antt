@@ -7,7 +7,7 @@ use mathlib.Core.List.{[]}
 use denote.Ref.{now}
 use lib.ListN.{length}
 use Rattle.sha256.specs.Call.{bytesIf, lengthLimit, refusalIf, within}
-use Rattle.sha256.specs.Fips.{sha256}
+use Rattle.compression.specs.Fips.{sha256}
 use Rattle.sha256.proofs.sha256.Statement.{statement}
 use Rattle.sha256.proofs.sha256.Tie as tie
 

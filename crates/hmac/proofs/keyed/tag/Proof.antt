@@ -4,7 +4,7 @@ use mathlib.Core.List.{List, _++_}
 use Prim.Native.Nat.{ℕ}
 use denote.Ref.{now}
 use borrow.Author.Needs.{needs}
-use Rattle.sha256.specs.Fips.{sha256}
+use Rattle.compression.specs.Fips.{sha256}
 use Rattle.hmac.specs.Rfc2104.{ipad, opad, masked, hmac}
 use Rattle.hmac.proofs.Keys.{absorbed, masked-length}
 use Rattle.hmac.proofs.keyed.tag.Statement.{statement}

@@ -4,7 +4,7 @@ use mathlib.Core.Path.{_≡_, ap, _∙_}
 use mathlib.Core.List.{List, _++_}
 use Prim.Native.Nat.{ℕ, _+_}
 use lib.ListN.{take, drop}
-use Rattle.sha256.specs.Fips.{bigEndian}
+use Rattle.compression.specs.Fips.{bigEndian}
 use Rattle.sha256.proofs.state.digest.Statement.{statement}
 use Rattle.sha256.proofs.state.digest.Tie as tie
 

@@ -6,7 +6,7 @@ use Prim.Native.Nat.{ℕ, _*_}
 use native.Mathlib.Omega.{arith}
 use denote.Ref.{now}
 use lib.ListN.{length, set}
-use Rattle.sha256.specs.Fips.{bigEndian, digest}
+use Rattle.compression.specs.Fips.{bigEndian, digest}
 use Rattle.sha256.proofs.Blocks.{length-rest, over, put, sha256-one, sha256-two, stands-rest}
 use Rattle.sha256.proofs.state.ended.Statement.{statement}
 use Rattle.sha256.proofs.state.ended.Tie as tie

@@ -6,7 +6,7 @@ use native.Mathlib.Nat.{mul-comm}
 use Prim.Native.Nat.{ℕ, _-_, _*_, _/_}
 use denote.Ref.{now}
 use lib.ListN.{length, take, drop}
-use Rattle.sha256.proofs.Blocks.{filled, filled-rest, put-filled, to-end}
+use Rattle.sha256.proofs.Blocks.{zeroFilled, filled-rest, put-filled, to-end}
 use Rattle.sha256.proofs.state.whole.Statement.{statement}
 use Rattle.sha256.proofs.state.whole.Tie as tie
 
@@ -36,7 +36,7 @@ returns c =
     let left = to-end part at ∙ ap (λ (k : ℕ). drop k part) (mul-comm (length part / 64) 64) in
     record {
       words = c .before .before .blocks2 .ensures;
-      pending = c .put .ensures ∙ held ∙ ap filled left ∙ filled-rest part;
+      pending = c .put .ensures ∙ held ∙ ap zeroFilled left ∙ filled-rest part;
       counted = refl;
     }
 

@@ -3,7 +3,7 @@ use mathlib.Core.Path.{_≡_, _∙_, ap}
 use mathlib.Core.List.{List, _++_}
 use Prim.Native.Nat.{ℕ}
 use borrow.Author.Needs.{needs}
-use Rattle.sha256.specs.Fips.{sha256}
+use Rattle.compression.specs.Fips.{sha256}
 use Rattle.hmac.specs.Rfc2104.{opad, masked, hmac}
 use Rattle.hmac.proofs.Keys.{masked-length}
 use Rattle.hmac.proofs.keyed.Hmac.finish.Statement.{statement}

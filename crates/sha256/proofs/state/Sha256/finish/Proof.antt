@@ -5,20 +5,14 @@ use mathlib.Core.Path.{refl, ap, ap₂, _∙_}
 use mathlib.Core.List.{List}
 use Prim.Native.Nat.{ℕ, _%_}
 use native.Mathlib.Omega.{arith}
-use lib.ListN.{replicate, set}
-use Rattle.sha256.specs.Fips.{digest}
-use Rattle.sha256.proofs.Blocks.{over, put, sha256-one, sha256-two}
+use lib.ListN.{set}
+use Rattle.compression.specs.Fips.{digest}
+use Rattle.sha256.proofs.Blocks.{over, sha256-one, sha256-two}
 use Rattle.sha256.proofs.state.Sha256.finish.Statement.{statement}
 use Rattle.sha256.proofs.state.Sha256.finish.Tie as tie
 
-length-bytes-requires : tie.Need-length-bytes-requires
-length-bytes-requires c κs = search needs
-
-slice-aggregate-put : tie.Need-slice-aggregate-put
-slice-aggregate-put c = search needs
-
-put-requires : tie.Need-put-requires
-put-requires c κs = search needs
+with-length-requires : tie.Need-with-length-requires
+with-length-requires c κs = search needs
 
 array-write-end : tie.Need-array-write-end
 array-write-end c = search needs
@@ -34,20 +28,16 @@ digest-requires c κs = search needs
 
 returns : tie.Need-returns
 returns c m h =
-    let self = c .before .before .before .before .before .before .before .before .before .before .args .self in
-    let bits = c .before .before .before .before .before .before .before .before .length-bytes .ensures in
-    let end = c .before .before .before .put .ensures ∙ ap (put (self .block) 56) bits in
-    let last = ap (λ (b : List ℕ). over (self .words) (set b (self .length % 64) 128)) end in
-    c .digest .ensures ∙ ap digest (c .before .blocks2 .ensures ∙ last) ∙ sha256-one m (self .length % 64) h refl (omega arith)
+    let self = c .before .before .before .before .before .before .before .before .args .self in
+    let n = self .length % 64 in
+    let last = ap (λ (b : List ℕ). over (self .words) (set b n 128)) (c .before .before .before .with-length .ensures) in
+    c .digest .ensures ∙ ap digest (c .before .blocks2 .ensures ∙ last) ∙ sha256-one m n h refl (omega arith)
 
 array-write-last : tie.Need-array-write-last
 array-write-last c = search needs
 
-slice-aggregate-put-2 : tie.Need-slice-aggregate-put-2
-slice-aggregate-put-2 c = search needs
-
-put-requires-2 : tie.Need-put-requires-2
-put-requires-2 c κs = search needs
+with-length-requires-2 : tie.Need-with-length-requires-2
+with-length-requires-2 c κs = search needs
 
 slice-aggregate-blocks-2 : tie.Need-slice-aggregate-blocks-2
 slice-aggregate-blocks-2 c = search needs
@@ -66,9 +56,8 @@ digest-requires-2 c κs = search needs
 
 returns-2 : tie.Need-returns-2
 returns-2 c m h =
-    let self = c .before .before .before .before .before .before .before .before .before .before .before .before .args .self in
-    let bits = c .before .before .before .before .before .before .before .before .before .before .length-bytes .ensures in
-    let end = c .before .before .before .before .before .put2 .ensures ∙ ap (put (replicate 64 0) 56) bits in
+    let self = c .before .before .before .before .before .before .before .before .before .before .args .self in
+    let end = c .before .before .before .before .before .with-length2 .ensures in
     c .digest2 .ensures
     ∙ ap digest (c .before .blocks4 .ensures ∙ ap₂ over (c .before .before .before .blocks3 .ensures) end)
     ∙ sha256-two m (self .length % 64) h refl (omega arith)
@@ -77,17 +66,14 @@ pub finish-spec : {M : Type 1} → statement M
 finish-spec =
     tie.close
     (tie.spec
-    length-bytes-requires
-    slice-aggregate-put
-    put-requires
+    with-length-requires
     array-write-end
     slice-aggregate-blocks
     blocks-requires
     digest-requires
     returns
     array-write-last
-    slice-aggregate-put-2
-    put-requires-2
+    with-length-requires-2
     slice-aggregate-blocks-2
     blocks-requires-2
     slice-aggregate-blocks-3

@@ -6,8 +6,8 @@ use native.Mathlib.Nat.{mul-comm}
 use Prim.Native.Nat.{ℕ, _*_, _/_}
 use denote.Ref.{now}
 use lib.ListN.{length, drop}
-use Rattle.sha256.specs.Fips.{H₀}
-use Rattle.sha256.specs.declared.words.Words.{Words}
+use Rattle.compression.specs.Fips.{H₀}
+use Rattle.compression.specs.declared.words.Words.{Words}
 use Rattle.sha256.proofs.Blocks.{over, over-whole, rest-whole, stands-count, to-end}
 use Rattle.sha256.proofs.state.Sha256.finish_part.Statement.{statement}
 use Rattle.sha256.proofs.state.Sha256.finish_part.Tie as tie

@@ -1,17 +1,14 @@
 -- The part and the padding behind it fill one block, which follows the message's own (`sha256-with`).
 use borrow.Author.Needs.{needs}
-use mathlib.Core.Path.{_≡_, sym, ap, ap₂, _∙_}
+use mathlib.Core.Path.{_≡_, sym, ap, _∙_}
 use mathlib.Core.List.{List}
-use Prim.Native.Nat.{ℕ}
+use Prim.Native.Nat.{ℕ, _*_}
 use native.Mathlib.Omega.{arith}
 use lib.ListN.{length, set}
-use Rattle.sha256.specs.Fips.{digest}
+use Rattle.compression.specs.Fips.{bigEndian, digest}
 use Rattle.sha256.proofs.Blocks.{over, put, sha256-with}
 use Rattle.sha256.proofs.state.Sha256.finish_with.Statement.{statement}
 use Rattle.sha256.proofs.state.Sha256.finish_with.Tie as tie
-
-length-bytes-requires : tie.Need-length-bytes-requires
-length-bytes-requires c κs = search needs
 
 slice-aggregate-put : tie.Need-slice-aggregate-put
 slice-aggregate-put c = search needs
@@ -19,11 +16,8 @@ slice-aggregate-put c = search needs
 put-requires : tie.Need-put-requires
 put-requires c κs = search needs
 
-slice-aggregate-put-2 : tie.Need-slice-aggregate-put-2
-slice-aggregate-put-2 c = search needs
-
-put-requires-2 : tie.Need-put-requires-2
-put-requires-2 c κs = search needs
+with-length-requires : tie.Need-with-length-requires
+with-length-requires c κs = search needs
 
 array-write-end : tie.Need-array-write-end
 array-write-end c = search needs
@@ -40,11 +34,9 @@ digest-requires c κs = search needs
 returns : tie.Need-returns
 returns c m h one =
     let b = c .before .before .before in
-    let a = b .before .before .before .before .before .before .args in
-    let half : length (a .t2) ≡ 32 = omega (arith, slice-aggregate-put (b .before .before .before)) in
-    let end =
-    b .put2 .ensures
-    ∙ ap₂ (λ (d bits : List ℕ). put d 56 bits) (b .before .before .put .ensures) (b .before .before .before .before .length-bytes .ensures) in
+    let a = b .before .before .before .before .args in
+    let half : length (a .t2) ≡ 32 = omega (arith, slice-aggregate-put (b .before .before)) in
+    let end = b .with-length .ensures ∙ ap (λ (d : List ℕ). put d 56 (bigEndian 8 (8 * 96))) (b .before .put .ensures) in
     c .digest .ensures
     ∙ ap digest (c .before .blocks2 .ensures ∙ ap (λ (d : List ℕ). over (a .self .words) (set d 32 128)) end)
     ∙ sym (sha256-with m (a .t2) h one half)
@@ -53,11 +45,9 @@ pub finish-with-spec : {M : Type 1} → statement M
 finish-with-spec =
     tie.close
     (tie.spec
-    length-bytes-requires
     slice-aggregate-put
     put-requires
-    slice-aggregate-put-2
-    put-requires-2
+    with-length-requires
     array-write-end
     slice-aggregate-blocks
     blocks-requires

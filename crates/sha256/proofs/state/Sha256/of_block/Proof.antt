@@ -3,7 +3,7 @@ use borrow.Author.Needs.{needs}
 use mathlib.Core.Path.{_≡_}
 use native.Mathlib.Omega.{arith}
 use lib.ListN.{length}
-use Rattle.sha256.specs.Fips.{hashed}
+use Rattle.compression.specs.Fips.{hashed}
 use Rattle.sha256.proofs.Blocks.{held-same}
 use Rattle.sha256.proofs.state.Sha256.of_block.Statement.{statement}
 use Rattle.sha256.proofs.state.Sha256.of_block.Tie as tie
