@@ -1,32 +1,47 @@
--- No refusal has the number 0.
+-- The number of a refusal is above 0, and small.
 use mathlib.Core.Path.{_≡_, refl}
 use mathlib.Core.Bool.{false}
+use Prim.Native.Nat.{_≤_}
+use native.Mathlib.Omega.{arith}
+use borrow.Author.Tests.{ne-eqb}
 use lib.Dec.{eqb}
+use Rattle.scheme.specs.Rules.{anyTrue, outside}
 use Rattle.scheme.specs.Answers.{refusalNumber}
 use Rattle.scheme.specs.declared.Refusal.{Refusal}
 use Rattle.scheme.specs.declared.Refusal.the-variants.{TooLong, BadStore, BadLogs, BurnedAfterUnburned, BadLengths, StateUnfit, NoSuchPhase, BadDataLength, LogFull, SealFull, KeysSpent, BadAuditorStore, HeadersDiffer, ChunkDiffers, BadItem, ItemNotDue, WrongPlace, BadArea, AreaShared, TooManyWaiting, WrongTag, ItemsMissing, NotCovered}
+use Rattle.scheme.proofs.Rules.{in-range}
+
+numbered : (x : Refusal) → outside 1 255 (refusalNumber x) ≡ false
+unfolding outside anyTrue
+numbered =
+    elim [
+      | TooLong ↦ refl
+      | BadStore ↦ refl
+      | BadLogs ↦ refl
+      | BurnedAfterUnburned ↦ refl
+      | BadLengths ↦ refl
+      | StateUnfit ↦ refl
+      | NoSuchPhase ↦ refl
+      | BadDataLength ↦ refl
+      | LogFull ↦ refl
+      | SealFull ↦ refl
+      | KeysSpent ↦ refl
+      | BadAuditorStore ↦ refl
+      | HeadersDiffer ↦ refl
+      | ChunkDiffers ↦ refl
+      | BadItem ↦ refl
+      | ItemNotDue ↦ refl
+      | WrongPlace ↦ refl
+      | BadArea ↦ refl
+      | AreaShared ↦ refl
+      | TooManyWaiting ↦ refl
+      | WrongTag ↦ refl
+      | ItemsMissing ↦ refl
+      | NotCovered ↦ refl
+    ]
+
+pub number-bounds : (x : Refusal) → (1 ≤ refusalNumber x) × (refusalNumber x ≤ 255)
+number-bounds x = in-range 1 255 (refusalNumber x) .0 (numbered x)
 
 pub never-zero : (x : Refusal) → eqb (refusalNumber x) 0 ≡ false
-never-zero TooLong = refl
-never-zero BadStore = refl
-never-zero BadLogs = refl
-never-zero BurnedAfterUnburned = refl
-never-zero BadLengths = refl
-never-zero StateUnfit = refl
-never-zero NoSuchPhase = refl
-never-zero BadDataLength = refl
-never-zero LogFull = refl
-never-zero SealFull = refl
-never-zero KeysSpent = refl
-never-zero BadAuditorStore = refl
-never-zero HeadersDiffer = refl
-never-zero ChunkDiffers = refl
-never-zero BadItem = refl
-never-zero ItemNotDue = refl
-never-zero WrongPlace = refl
-never-zero BadArea = refl
-never-zero AreaShared = refl
-never-zero TooManyWaiting = refl
-never-zero WrongTag = refl
-never-zero ItemsMissing = refl
-never-zero NotCovered = refl
+never-zero x = ne-eqb (refusalNumber x) 0 (λ e. omega (arith, number-bounds x))

@@ -6,6 +6,12 @@ pub mod Bytes
 pub mod Splice
 pub mod Numbers
 pub mod Scans
+pub mod Parameters
 pub mod Headers
+pub mod Items
+pub mod Tags
+pub mod Places
 pub mod Areas
 pub mod Acceptance
+pub mod Burning
+pub mod Runs

@@ -1,7 +1,8 @@
 -- The laws of `splice`: writing a list at a place keeps the length, gives there what was written, and leaves the rest as it was.
 use mathlib.Core.Path.{_≡_, refl, sym, ap, _∙_}
-use mathlib.Core.List.{List, [], _∷_, _++_, append-assoc}
+use mathlib.Core.List.{List, [], _∷_, _++_, append-nil, append-assoc}
 use Prim.Native.Nat.{ℕ, zero, suc, _+_, _-_, _≤_}
+use native.Mathlib.Nat.{add-zero}
 use native.Mathlib.Omega.{arith}
 use lib.ListN.{length, take, drop, length-append, length-drop, take-append-drop}
 use lib.Seq.{length-take-le, take-take, drop-drop, take-append-le, drop-append-le, take-append-seam, take-append-add, drop-append-add, take-at, drop-at, take-length, paste}
@@ -15,6 +16,10 @@ part-of-front [] (suc a) n (suc k) h = refl
 part-of-front (x ∷ xs) (suc a) n zero h = let none : ⊥ = omega arith in absurd none
 part-of-front (x ∷ xs) (suc a) n (suc k) h = part-of-front xs a n k (omega arith)
 
+-- lists with the same front have the same parts there
+pub part-same : (xs ys : List ℕ) (a n k : ℕ) → a + n ≤ k → take k xs ≡ take k ys → part xs a n ≡ part ys a n
+part-same xs ys a n k h same = part-of-front xs a n k h ∙ ap (λ l. part l a n) same ∙ sym (part-of-front ys a n k h)
+
 module _ (xs : List ℕ) (at : ℕ) (ys : List ℕ) where
   -- the first at entries are as they were
   take-splice : at ≤ length xs → take at (splice xs at ys) ≡ take at xs
@@ -22,8 +27,7 @@ module _ (xs : List ℕ) (at : ℕ) (ys : List ℕ) where
   take-splice h = rw append-assoc (take-at (take at xs) (ys ++ drop (at + length ys) xs) at (length-take-le at xs h))
 
   pub splice-before : (a n : ℕ) → a + n ≤ at → at ≤ length xs → part (splice xs at ys) a n ≡ part xs a n
-  splice-before a n h within =
-      part-of-front (splice xs at ys) a n at h ∙ ap (λ l. part l a n) (take-splice within) ∙ sym (part-of-front xs a n at h)
+  splice-before a n h within = part-same (splice xs at ys) xs a n at h (take-splice within)
 
 module _ (xs : List ℕ) (at : ℕ) (ys : List ℕ) (fits : at + length ys ≤ length xs) where
   front-length : length (take at xs) ≡ at
@@ -63,6 +67,11 @@ module _ (xs : List ℕ) (at : ℕ) (ys : List ℕ) (fits : at + length ys ≤ l
 
   pub splice-behind : (a n : ℕ) → at + length ys ≤ a → part (splice xs at ys) a n ≡ part xs a n
   splice-behind a n h = ap (take n) (drop-splice a h)
+
+-- a write of nothing
+pub splice-none : (xs : List ℕ) (at : ℕ) → splice xs at [] ≡ xs
+unfolding splice
+splice-none xs at = rw (append-nil, add-zero) (take-append-drop at xs)
 
 -- two writes, the second right behind the first, are one
 pub splice-twice : (xs : List ℕ) (at : ℕ) (ys zs : List ℕ) → at + length ys + length zs ≤ length xs

@@ -3,6 +3,7 @@ pub mod Bytes
 pub mod Rules
 pub mod Store
 pub mod Items
+pub mod Areas
 pub mod Keys
 pub mod Answers
 pub mod State
