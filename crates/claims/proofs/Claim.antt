@@ -1,9 +1,8 @@
 -- Demand 3, whole: the claim holds of every history.
 use mathlib.Core.Path.{_≡_}
 use mathlib.Core.List.{List}
-use Prim.Native.Nat.{ℕ}
 use native.Mathlib.Omega.{arith}
-use lib.ListN.{length, take}
+use lib.ListN.{take}
 use Rattle.scheme.proofs.Splice.{splice-inside}
 use Rattle.claims.specs.Account.{Call, Fed, Account, started, accountFrom, sealReached, HistoryFrom}
 use Rattle.claims.specs.Claim.{Starts, Claim, sealFile, sealLeft}
@@ -24,6 +23,6 @@ claim f starts calls history =
     let k = kept f starts calls history in
     record {
       kept = k;
-      compromise = compromise f a starts g;
+      compromise = compromise f a g;
       honest = λ closed. rw (k .store, k .logs, k .seal, file-front f a g) (honest f a starts g closed);
     }

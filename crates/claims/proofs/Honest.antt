@@ -1,35 +1,28 @@
 -- The audit accepts what a history left, untouched, where no chunk is half used: it is as Acceptable has it.
-pub mod StoreLeft
-pub mod Front
-pub mod LogsLeft
-pub mod Areas
-use mathlib.Core.Path.{_≡_, refl, sym, _∙_, ap, subst}
-use mathlib.Core.Logic.{_⊎_, inl, inr}
-use mathlib.Core.List.{List, [], _∷_, _++_}
+use mathlib.Core.Path.{_≡_, refl, _∙_, ap, subst}
+use mathlib.Core.List.{List, []}
 use Prim.Native.Nat.{ℕ, suc, _-_, _≤_, _<_}
 use native.Mathlib.Nat.{le-refl}
 use native.Mathlib.Omega.{arith}
-use lib.ListN.{length, take, drop, take-append-drop}
-use lib.Seq.{drop-cons}
-use Rattle.scheme.specs.Store.{entryKind, phases}
-use Rattle.scheme.specs.Items.{chunkNumber, ratchetOffset}
-use Rattle.scheme.specs.Keys.{tagOf}
-use Rattle.scheme.specs.Audit.{audit, kindOf, phaseOf, areaOf, areaEnd, areasIn, covered, waiting, waitingAllowed, lengthIn, dataOf, messageOf}
+use lib.ListN.{length, take, drop}
+use lib.Seq.{split-at}
+use Rattle.scheme.specs.Store.{entryKind, phases, chunk}
+use Rattle.scheme.specs.Items.{kindOf, phaseOf}
+use Rattle.scheme.specs.Areas.{areaOf, areaEnd, areasIn, covered, waiting, waitingAllowed, lengthIn, Runs}
+use Rattle.scheme.specs.Audit.{audit}
+use Rattle.scheme.specs.Acceptable.{Acceptable}
+use Rattle.scheme.proofs.Acceptance.{acceptable}
+use Rattle.scheme.proofs.Acceptance.Areas.{areas-up-to, apart, covers}
+use Rattle.scheme.proofs.Headers.{same-message, same-entry-length, same-filler-length}
+use Rattle.scheme.proofs.Tags.{same-tag}
+use Rattle.scheme.proofs.Burning.{zeroed-later, zeroed-burned}
+use Rattle.scheme.proofs.Runs.{run-one, runs-append, runs-before, run-covered, run-apart, none-waits}
 use Rattle.claims.specs.Account.{Fed, Account, logOf, lengthsReached}
 use Rattle.claims.specs.Claim.{Starts, storeLeft, logsLeft, sealFile}
-use Rattle.scheme.specs.Acceptable.{Acceptable}
-use Rattle.claims.proofs.Good.{Good, itemOf, EntryItem, FillerItem, whole-form, Runs}
-use Rattle.scheme.proofs.Acceptance.{acceptable}
-use Rattle.scheme.proofs.Acceptance.Stores.{key-store, unused-is}
-use Rattle.scheme.proofs.Acceptance.Areas.{areas-up-to, apart, covers}
-use Rattle.claims.proofs.Honest.Front.{left-header, left-fields, left-store, used, front-count, left-burned, left-kept}
-use Rattle.claims.proofs.Honest.LogsLeft.{lengths-length, lengths-at, logs-length}
-use Rattle.claims.proofs.Honest.Areas.{runs-one, run-covered, run-apart, none-waits, runs-before}
-
--- an item of the kind of entries is one
-entry-item : (f : Fed) (a : Account) (it : List ℕ) → kindOf it ≡ entryKind → EntryItem f a it ⊎ FillerItem f it → EntryItem f a it
-entry-item f a it kind (inl entry) = entry
-entry-item f a it kind (inr filler) = absurd (omega arith)
+use Rattle.claims.proofs.Good.{Good, itemOf, InLog}
+use Rattle.claims.proofs.Steps.Begun.{begun}
+use Rattle.claims.proofs.Steps.StoreLeft.{front, front-whole, front-at-most, store-left}
+use Rattle.claims.proofs.Steps.Device.{lengths-at, lengths-length, left-header, left-fields, left-store, left-logs}
 
 module _ (f : Fed) (a : Account) (good : Good f a) where
   -- each log is covered
@@ -39,8 +32,8 @@ module _ (f : Fed) (a : Account) (good : Good f a) where
       rw (lengths-at (a .logs) (p - 1), run-covered long (good .runs p low high) (le-refl long)) (le-refl long)
 
   module _ (k : ℕ) (h : k < length (a .items)) (kind : kindOf (itemOf a k) ≡ entryKind) where
-    entry : EntryItem f a (itemOf a k)
-    entry = entry-item f a (itemOf a k) kind (good .items k h .form)
+    entry : InLog f (a .logs) (itemOf a k)
+    entry = good .items k h .ranges kind
 
     inside : areaEnd (areaOf (itemOf a k)) ≤ lengthIn (lengthsReached a) (phaseOf (itemOf a k))
     inside = rw (lengths-at (a .logs) (phaseOf (itemOf a k) - 1)) (entry .inside)
@@ -48,43 +41,44 @@ module _ (f : Fed) (a : Account) (good : Good f a) where
     -- it begins where the areas before it end
     begins : Runs 0 (areasIn (phaseOf (itemOf a k)) (take k (a .items))) (areaOf (itemOf a k) .from)
     begins =
-        let cut : a .items ≡ take k (a .items) ++ itemOf a k ∷ drop (suc k) (a .items) =
-        sym (take-append-drop k (a .items)) ∙ ap (λ (l : List (List ℕ)). take k (a .items) ++ l) (drop-cons (a .items) k [] h) in
         runs-before (take k (a .items)) (itemOf a k) (drop (suc k) (a .items)) (kind, refl)
-        (subst (λ (l : List (List ℕ)). Runs 0 (areasIn (phaseOf (itemOf a k)) l) (length (logOf a (phaseOf (itemOf a k))))) cut (good .runs (phaseOf (itemOf a k)) (entry .low) (entry .high)))
+        (subst (λ (l : List (List ℕ)). Runs 0 (areasIn (phaseOf (itemOf a k)) l) (length (logOf a (phaseOf (itemOf a k))))) (split-at (a .items) k [] h) (good .runs (phaseOf (itemOf a k)) (entry .low) (entry .high)))
 
     none-waiting : waiting (lengthIn (lengthsReached a) (phaseOf (itemOf a k))) (areasIn (phaseOf (itemOf a k)) (take (suc k) (a .items))) ≤ waitingAllowed
     none-waiting =
-        rw (areas-up-to (a .items) k h (phaseOf (itemOf a k)) (kind, refl), none-waits (lengthIn (lengthsReached a) (phaseOf (itemOf a k))) (runs-one (areaOf (itemOf a k)) refl begins) inside) (omega arith)
+        rw (areas-up-to (a .items) k h (phaseOf (itemOf a k)) (kind, refl), none-waits (lengthIn (lengthsReached a) (phaseOf (itemOf a k))) (runs-append begins (run-one {area = areaOf (itemOf a k)} refl refl)) inside) (omega arith)
 
 module _ (f : Fed) (a : Account) (starts : Starts f) (good : Good f a) (whole : a .r .0 ≡ 0) where
   left-acceptable : Acceptable (storeLeft f a) (f .store) (logsLeft f a) (lengthsReached a) (sealFile a) (length (a .items))
-  unfolding tagOf messageOf dataOf
   left-acceptable =
-      let fields = left-fields f a starts in
-      let store = key-store (f .store) .0 (starts .store) in
+      let st = f .store in
+      let left = storeLeft f a in
+      let b = begun f starts in
+      let fields = left-fields f b a good in
+      let most = front-at-most f a good (b .store) in
+      let zeros = store-left f a good (b .store) in
       record {
-        deviceStore = left-store f a starts;
-        auditorStore = store;
-        headers = left-header f a starts;
-        unused = unused-is (f .store) store .0 (starts .unused);
-        memory = rw (fields .phases) (logs-length f a starts good);
-        listed = rw (fields .phases) (lengths-length (a .logs) ∙ good .logs);
-        limited = λ i h. rw (lengths-at (a .logs) i) (good .sizes i);
-        burned = a .c .0;
-        front = rw (fields .chunkCount) (front-count f a starts good whole);
-        spent = left-burned f a starts good whole;
-        kept = λ x low high. left-kept f a starts good whole x low (rw (fields .chunkCount) at high);
+        deviceStore = left-store f b a good;
+        auditorStore = b .store;
+        headers = left-header f b a good;
+        unused = b .unused;
+        memory = rw (fields .phases, fields .logCapacity) (left-logs f b a good ∙ b .memory);
+        listed = rw (fields .phases) (lengths-length (a .logs) ∙ good .logs .count);
+        limited = λ i h. rw (lengths-at (a .logs) i, fields .logCapacity) (good .logs .sizes i);
+        burned = front a;
+        front = rw (fields .chunkCount) most;
+        spent = λ x h. ap (λ (l : List ℕ). chunk l x) zeros ∙ zeroed-burned st (b .store) (front a) most x h;
+        kept = λ x low high. ap (λ (l : List ℕ). chunk l x) zeros ∙ zeroed-later st (b .store) (front a) most x low;
         items = a .items;
         file = refl;
-        number = rw (fields .ratchet) (used f a starts good whole);
+        number = rw (fields .ratchet, front-whole a whole) (omega (arith, good .number));
         count = refl;
-        form = λ k h. whole-form f a (itemOf a k) (good .items k h .form);
-        place = λ k h. rw (fields .ratchet) (ap chunkNumber (good .items k h .chunk), ap ratchetOffset (good .items k h .offset));
-        tag = λ k h. rw (fields .ratchet) (good .items k h .tag);
+        form = λ k h. rw (same-entry-length left st fields, same-filler-length left st fields) (good .items k h .form);
+        place = λ k h. rw (fields .ratchet) (good .items k h .chunk, good .items k h .offset);
+        tag = λ k h. rw (fields .ratchet, same-tag left st fields, same-message left st fields) (good .items k h .tag);
         ranges = λ k h kind.
             let e = entry f a good k h kind in
-            (e .low, rw (fields .phases) (e .high), e .some, e .few, inside f a good k h kind);
+            (e .low, rw (fields .phases) (e .high), e .some, rw (fields .dataLimit) (e .few), inside f a good k h kind);
         apart = apart (a .items) (λ k h kind. run-apart (areaOf (itemOf a k)) (begins f a good k h kind) (le-refl _));
         whole = λ p i low high h. covers p (a .items) (lengthIn (lengthsReached a) p) .0 (full f a good p low (rw (fields .phases) at high)) i h;
         patience = none-waiting f a good;

@@ -1,28 +1,27 @@
 -- Every account is good: calls that are refused change no item, and the others add items one by one.
-use mathlib.Core.Path.{_≡_, refl, sym}
-use mathlib.Core.Bool.{Bool, true, false, _||_, _&&_, cond, true≢false}
+use mathlib.Core.Path.{_≡_, refl, sym, _∙_}
+use mathlib.Core.Bool.{Bool, true, false, _||_, cond, true≢false}
+use mathlib.Core.Logic.{by-cases}
 use mathlib.Core.List.{List, [], _∷_}
 use Prim.Native.Nat.{ℕ, zero, suc, _+_, _-_, _*_, _≤_, _<_}
 use native.Mathlib.Nat.{zero-mul}
+use native.Mathlib.Decide.{decLt}
 use native.Mathlib.Omega.{arith}
 use lib.Dec.{eqb, ltb}
 use lib.ListN.{length, getD, replicate, length-replicate}
-use lib.Seq.{take-length}
-use borrow.Author.Tests.{eqb-true, eqb-false, ltb-true, ltb-false, le-ltb}
-use Rattle.scheme.specs.Rules.{allTrue}
+use borrow.Author.Tests.{eqb-true, eq-eqb, ltb-true, ltb-false, le-ltb}
 use Rattle.scheme.specs.Store.{dataLimit, logCapacity, phases, chunkCount, ratchet}
 use Rattle.scheme.specs.Items.{entryLength, fillerLength}
-use Rattle.scheme.specs.Audit.{areasIn}
-use Rattle.claims.specs.Account.{Fed, Account, Call, Open, Append, Close, started, logOf, carriedBy, sealReached, withLost, entryDue, accountAppend, afterClose, accountAppendRules, accountCloseRules, accountRefusal, accountDone, accountRefused, accountStep, accountFrom}
+use Rattle.scheme.specs.Areas.{areasIn, none}
 use Rattle.scheme.specs.Bytes.{joined}
+use Rattle.scheme.proofs.Rules.{both-true, in-range, passed}
+use Rattle.claims.specs.Account.{Fed, Account, Call, Open, Append, Close, started, logOf, carriedBy, sealReached, withLost, entryDue, accountAppend, afterClose, accountAppendRules, accountCloseRules, accountRefusal, accountDone, accountRefused, accountStep, accountFrom}
 use Rattle.claims.specs.Claim.{Starts}
-use Rattle.claims.proofs.Good.{Good, none}
+use Rattle.claims.proofs.Good.{Good}
 use Rattle.claims.proofs.Steps.Begun.{Begun, begun}
 use Rattle.claims.proofs.Steps.Adding.{adds-good}
 use Rattle.claims.proofs.Steps.Entries.{Appends, entry-adds, logsWith}
 use Rattle.claims.proofs.Steps.Fillers.{left, after-close, close-sealed, fill-good}
-use Rattle.claims.proofs.Steps.LogsLeft.{begun-room, item-kept}
-use Rattle.claims.proofs.Steps.Scans.{passed, inside}
 use Rattle.claims.proofs.Steps.StoreLeft.{chunk-at-most, chunk-below}
 
 empty-log : (n p : ℕ) → length (getD (replicate {A = List ℕ} n []) p []) ≡ 0
@@ -39,9 +38,8 @@ module _ (f : Fed) (begun : Begun f) where
         number = sym (rw zero-mul refl);
         spent = omega arith;
         sealed = omega arith;
-        logs = length-replicate (phases (f .store)) [];
-        sizes = λ p. omega (arith, empty-log (phases (f .store)) p);
-        items = λ k h. let never : ⊥ = omega arith in absurd never;
+        logs = record { count = length-replicate (phases (f .store)) []; sizes = λ i. omega (arith, empty-log (phases (f .store)) i) };
+        items = λ k h. absurd (omega arith);
         burned = λ x. sym (le-ltb (x * ratchet (f .store)) 0 (omega arith));
         runs = λ p low high. rw empty-log none;
         standing = λ e. absurd (true≢false (sym e));
@@ -49,15 +47,13 @@ module _ (f : Fed) (begun : Begun f) where
 
   lost-good : (a : Account) → Good f a → (lost : Bool) → (lost ≡ true → 0 < length (a .items)) → Good f (withLost a lost)
   lost-good a good lost standing =
-      let room = begun-room f (begun .memory) (a .logs) (good .logs) (good .sizes) in
       record {
         offset = good .offset;
         number = good .number;
         spent = good .spent;
         sealed = good .sealed;
         logs = good .logs;
-        sizes = good .sizes;
-        items = λ k h. item-kept f a (withLost a lost) room room (good .logs) (good .logs) (λ p. take-length (logOf a p)) k (getD (a .items) k []) (good .items k h);
+        items = good .items;
         burned = good .burned;
         runs = good .runs;
         standing = standing;
@@ -65,36 +61,35 @@ module _ (f : Fed) (begun : Begun f) where
 
   -- what an append that is not refused has found
   pub append-asks : (a : Account) → Good f a → (phase : ℕ) (bytes : List ℕ) → accountRefusal f a (Append phase bytes) ≡ 0 → Appends f a phase bytes
-  unfolding accountRefusal accountAppendRules allTrue
+  unfolding accountRefusal accountAppendRules
   append-asks a good phase bytes e =
-      let tests = passed (accountAppendRules f a phase bytes) e in
-      let phase-in = inside 1 (phases (f .store)) phase (tests .1 .1 .1 .0) in
-      let size-in = inside 1 (dataLimit (f .store)) (length bytes) (tests .1 .1 .1 .1 .0) in
-      let log-free = ltb-false (logCapacity (f .store) - length (logOf a phase)) (length bytes) (tests .1 .1 .1 .1 .1 .0) in
-      let seal-free = ltb-false (length (f .seal) - sealReached a) (entryLength (f .store)) (tests .1 .1 .1 .1 .1 .1 .0) in
+      let test = passed (accountAppendRules f a phase bytes) refl e in
+      let phase-in = in-range 1 (phases (f .store)) phase .0 (test 7) in
+      let size-in = in-range 1 (dataLimit (f .store)) (length bytes) .0 (test 8) in
+      let log-free = ltb-false (logCapacity (f .store) - length (logOf a phase)) (length bytes) (test 9) in
+      let seal-free = ltb-false (length (f .seal) - sealReached a) (entryLength (f .store)) (test 10) in
       record {
         low = phase-in .0;
         high = phase-in .1;
         some = size-in .0;
         few = size-in .1;
-        fits = omega (arith, good .sizes (phase - 1));
+        fits = omega (arith, good .logs .sizes (phase - 1));
         sealed = omega arith;
-        room = keys (eqb (a .r .0) 0) (eqb (a .c .0) (chunkCount (f .store))) refl refl (tests .1 .1 .1 .1 .1 .1 .1 .0);
+        room = by-cases (decLt (a .c .0) (chunkCount (f .store))) (λ below. below)
+            (λ over. absurd (true≢false (sym (both-true (eqb (a .r .0) 0) (eqb (a .c .0) (chunkCount (f .store))) .1 (spent over)) ∙ test 11)));
       }
     where
-      keys : (t u : Bool) → eqb (a .r .0) 0 ≡ t → eqb (a .c .0) (chunkCount (f .store)) ≡ u → (t && (u && true)) ≡ false
-          → a .c .0 < chunkCount (f .store)
-      keys true true q w e = absurd (true≢false e)
-      keys true false q w e =
-          let apart = eqb-false (a .c .0) (chunkCount (f .store)) w in
-          omega (arith, chunk-at-most f a good (begun .store))
-      keys false u q w e = let apart = eqb-false (a .r .0) 0 q in chunk-below f a good (begun .store) (omega arith)
+      spent : (a .c .0 < chunkCount (f .store) → ⊥) → (eqb (a .r .0) 0 ≡ true) × (eqb (a .c .0) (chunkCount (f .store)) ≡ true)
+      spent over = (
+        by-cases (decLt 0 (a .r .0)) (λ inner. absurd (over (chunk-below f a good (begun .store) inner))) (λ outer. eq-eqb (a .r .0) 0 (omega arith)),
+        eq-eqb (a .c .0) (chunkCount (f .store)) (omega (arith, chunk-at-most f a good (begun .store))),
+      )
 
   pub close-fits : (a : Account) → Good f a → accountRefusal f a Close ≡ 0 → sealReached a + left f a * fillerLength (f .store) ≤ length (f .seal)
   unfolding accountRefusal accountCloseRules
   close-fits a good e =
-      let tests = passed (accountCloseRules f a) e in
-      let free = ltb-false (length (f .seal) - sealReached a) (sealReached (afterClose f a) - sealReached a) (tests .1 .1 .1 .0) in
+      let test = passed (accountCloseRules f a) refl e in
+      let free = ltb-false (length (f .seal) - sealReached a) (sealReached (afterClose f a) - sealReached a) (test 10) in
       omega (arith, close-sealed f a (good .offset))
 
   pub done-good : (a : Account) (call : Call) → Good f a → accountRefusal f a call ≡ 0 → Good f (accountDone f a call)

@@ -1,13 +1,6 @@
 -- The account and the run, step by step: the laws behind `Invariant` and `Kept`.
-pub mod TagLength
-pub mod Splices
-pub mod Scans
-pub mod MadeItems
 pub mod Placed
-pub mod Sound
 pub mod Begun
-pub mod Tests
-pub mod Zeroed
 pub mod Stepping
 pub mod StoreLeft
 pub mod LogsLeft

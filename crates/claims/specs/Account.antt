@@ -8,9 +8,8 @@ use lib.ListN.{length, getD, set, replicate}
 use Rattle.scheme.specs.Bytes.{joined}
 use Rattle.scheme.specs.Rules.{Rule, _⇒_, refusalBy, allTrue, outside, someFrom, row}
 use Rattle.scheme.specs.Store.{dataLimit, logCapacity, phases, chunkCount, ratchet, badStore, badLogs, badLengths}
-use Rattle.scheme.specs.Items.{entryHead, fillerHead, entryLength, itemMessage, itemNumber}
+use Rattle.scheme.specs.Items.{entryHead, fillerHead, entryLength, itemMessage, itemNumber, chunkField}
 use Rattle.scheme.specs.Keys.{keyAt, tagOf}
-use Rattle.scheme.specs.Audit.{chunkField}
 use Rattle.scheme.specs.declared.ChunkNumber.{ChunkNumber}
 use Rattle.scheme.specs.declared.RatchetOffset.{RatchetOffset}
 

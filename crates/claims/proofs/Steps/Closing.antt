@@ -10,51 +10,53 @@ use Rattle.scheme.specs.Items.{fillerLength}
 use Rattle.scheme.specs.State.{zeroState, fits}
 use Rattle.scheme.specs.Sealer.{fillersDue, closeRules, closed, closes}
 use Rattle.scheme.specs.declared.State.{State}
+use Rattle.scheme.proofs.Rules.{passed}
+use Rattle.scheme.proofs.Headers.{same-filler-length}
+use Rattle.scheme.proofs.Burning.{zeroed}
 use Rattle.claims.specs.Account.{Close, Fed, Account, sealReached, withLost, afterClose, accountCloseRules, accountRefusal, accountCount, accountDone, accountRefused}
 use Rattle.claims.specs.Run.{deviceAfter, answerOf}
-use Rattle.claims.specs.Claim.{Starts, storeLeft, logsLeft, sealLeft, placed}
+use Rattle.claims.specs.Claim.{storeLeft, logsLeft, sealLeft, placed}
 use Rattle.claims.proofs.Good.{Good}
 use Rattle.claims.proofs.Steps.Agrees.{Agrees, agree, same-device}
-use Rattle.claims.proofs.Steps.Begun.{begun}
-use Rattle.claims.proofs.Steps.Device.{held, stateOf, state-held, deviceOf, left-ratchet, left-bad, left-bad-logs, left-seal}
+use Rattle.claims.proofs.Steps.Begun.{Begun}
+use Rattle.claims.proofs.Steps.Device.{held, stateOf, state-held, deviceOf, left-fields, left-bad, left-bad-logs, left-seal}
 use Rattle.claims.proofs.Steps.Fillers.{left, fill, after-close, close-sealed, fill-count, fill-good}
 use Rattle.claims.proofs.Steps.Fits.{unfit-lost}
 use Rattle.claims.proofs.Invariant.{close-fits}
-use Rattle.claims.proofs.Steps.Scans.{passed}
 use Rattle.claims.proofs.Steps.States.{fill-state, fill-seal, fill-logs, fill-lost, fill-front}
 use Rattle.claims.proofs.Steps.StoreLeft.{store-left}
-use Rattle.claims.proofs.Steps.Zeroed.{zeroed}
 
-module _ (f : Fed) (starts : Starts f) (a : Account) (good : Good f a) where
+module _ (f : Fed) (begun : Begun f) (a : Account) (good : Good f a) where
   fillers-left : fillersDue (storeLeft f a) (held f a) ≡ left f a
   unfolding fillersDue
-  fillers-left = rw (left-ratchet f (begun f starts) a good)
+  fillers-left = rw (left-fields f begun a good .ratchet)
 
   close-refusal : refusalBy (closeRules (stateOf f a) (storeLeft f a) (logsLeft f a) (sealLeft f a)) ≡ accountRefusal f a Close
   unfolding refusalBy closeRules accountRefusal accountCloseRules
-  close-refusal = go (a .lost) (unfit-lost f (begun f starts) (starts .unused) a good)
+  close-refusal = go (a .lost) (unfit-lost f begun a good)
     where
       go : (t : Bool) → not (fits (storeLeft f a) (cond t zeroState (held f a)) (length (sealLeft f a))) ≡ t
           → refusalBy (closeRules (cond t zeroState (held f a)) (storeLeft f a) (logsLeft f a) (sealLeft f a))
           ≡ refusalBy (accountCloseRules f (withLost a t))
       go true unfit =
-          rw (left-bad f (begun f starts) a good, left-bad-logs f (begun f starts) a good, unfit, starts .store, starts .logs)
+          rw (left-bad f begun a good, left-bad-logs f begun a good, unfit, begun .starts .store, begun .starts .logs)
       go false unfit =
           let adds : sealReached (afterClose f (withLost a false)) - sealReached a ≡ left f a * fillerLength (f .store) =
           omega (arith, close-sealed f (withLost a false) (good .offset))
           in
           rw (
-            left-bad f (begun f starts) a good,
-            left-bad-logs f (begun f starts) a good,
+            left-bad f begun a good,
+            left-bad-logs f begun a good,
             unfit,
-            left-seal f (begun f starts) a good,
+            left-seal f begun a good,
             fillers-left,
+            same-filler-length (storeLeft f a) (f .store) (left-fields f begun a good),
             adds,
           )
 
   close-kept : accountRefusal f a Close ≡ 0 → a .lost ≡ false
   unfolding accountRefusal accountCloseRules
-  close-kept e = passed (accountCloseRules f a) e .1 .1 .0
+  close-kept e = passed (accountCloseRules f a) refl e 6
 
   close-device : accountRefusal f a Close ≡ 0
       → deviceAfter (closed (held f a) (storeLeft f a) (logsLeft f a) (sealLeft f a)) ≡ deviceOf f (accountDone f a Close)
@@ -62,15 +64,15 @@ module _ (f : Fed) (starts : Starts f) (a : Account) (good : Good f a) where
   close-device e =
       let k = left f a in
       let b = fill f k a in
-      let same = left-ratchet f (begun f starts) a good in
-      let fits = close-fits f (begun f starts) a good e in
+      let same = left-fields f begun a good in
+      let fits = close-fits f begun a good e in
       rw (after-close f a (good .offset), fillers-left)
       (same-device
       (fill-state f (storeLeft f a) same k a (good .offset) refl
       ∙ sym (state-held f b (fill-lost f k a ∙ close-kept e)))
-      (store-left f a good (begun f starts .store)
+      (store-left f a good (begun .store)
       ∙ ap (zeroed (f .store)) (sym (fill-front f k a (good .offset) refl))
-      ∙ sym (store-left f b (fill-good f (begun f starts) k a good refl fits) (begun f starts .store)))
+      ∙ sym (store-left f b (fill-good f begun k a good refl fits) (begun .store)))
       (ap (λ (logs : List (List ℕ)). placed f 1 logs (f .logs)) (sym (fill-logs f k a)))
       (fill-seal f (storeLeft f a) same k a (good .offset) refl fits))
 

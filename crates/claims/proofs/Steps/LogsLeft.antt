@@ -3,82 +3,72 @@ use mathlib.Core.Path.{_≡_, sym, ap, _∙_}
 use mathlib.Core.Bool.{cond}
 use mathlib.Core.Logic.{_⊎_, inl, inr}
 use mathlib.Core.List.{List, [], _++_}
-use Prim.Native.Nat.{ℕ, _+_, _-_, _*_, _/_, _%_, _≤_}
+use Prim.Native.Nat.{ℕ, _+_, _-_, _≤_}
 use native.Mathlib.Omega.{arith}
-use lib.Dec.{eqb}
-use lib.ListN.{length, getD, take, drop, length-take}
-use lib.Seq.{take-take, drop-drop}
+use lib.ListN.{length, take, drop, length-take}
+use lib.Seq.{drop-drop}
 use Rattle.scheme.specs.Bytes.{part}
-use Rattle.scheme.specs.Store.{logCapacity, logPlace, phases, ratchet}
-use Rattle.scheme.specs.Items.{chunkOf, offsetOf}
+use Rattle.scheme.specs.Store.{logPlace, phases, ratchet}
+use Rattle.scheme.specs.Items.{chunkOf, offsetOf, isEntry, phaseOf, logOffset, dataLength, headOf, dataOf, messageOf}
 use Rattle.scheme.specs.Keys.{keyAt, tagOf}
-use Rattle.scheme.specs.Audit.{phaseOf, logOffset, dataLength, headOf, dataOf, messageOf}
-use Rattle.claims.specs.Account.{Fed, Account, logOf}
-use Rattle.claims.specs.Claim.{logsLeft}
-use Rattle.claims.proofs.Good.{EntryItem, FillerItem, ItemAt}
+use Rattle.scheme.specs.Acceptable.{EntryOf, FillerOf}
+use Rattle.scheme.proofs.Parameters.{log-inside}
+use Rattle.scheme.proofs.Splice.{part-of-front}
+use Rattle.claims.specs.Account.{Fed}
+use Rattle.claims.proofs.Good.{logIn, memoryWith, Logs, InLog, ItemAt}
+use Rattle.claims.proofs.Steps.Begun.{Begun}
 use Rattle.claims.proofs.Steps.Placed.{Room, placed-log}
-use Rattle.claims.proofs.Steps.Splices.{part-same}
 
-pub begun-room : (f : Fed) → length (f .logs) ≡ logCapacity (f .store) * phases (f .store) → (logs : List (List ℕ))
-    → length logs ≡ phases (f .store) → ((p : ℕ) → length (getD logs p []) ≤ logCapacity (f .store)) → Room f 0 logs (f .logs)
-begun-room f memory logs count sizes = record { long = omega arith; sizes = sizes }
-
-module _ (f : Fed) (a : Account) (room : Room f 0 (a .logs) (f .logs)) where
-  pub log-part : (p at size : ℕ) → 1 ≤ p → p ≤ length (a .logs) → at + size ≤ length (logOf a p)
-      → part (logsLeft f a) (logPlace (f .store) p + at) size ≡ part (logOf a p) at size
-  log-part p at size low high within =
-      let behind = drop (logPlace (f .store) p) (logsLeft f a) in
-      let log : take (length (logOf a p)) behind ≡ logOf a p =
-      placed-log f 0 (a .logs) (f .logs) room (p - 1) (logPlace (f .store) p) (omega arith) (omega arith)
-      in
-      let long : length (logOf a p) ≤ length behind = omega (arith, sym (length-take (length (logOf a p)) behind) ∙ ap length log) in
-      sym (ap (take size) (drop-drop at (logPlace (f .store) p) (logsLeft f a)))
-      ∙ part-same behind (logOf a p) at size (omega arith) (omega arith)
-      (sym (take-take (at + size) (length (logOf a p)) behind within) ∙ ap (take (at + size)) log)
-
--- an item stays what it is when logs grow behind their ends
-module _ (f : Fed) (a b : Account) (here : Room f 0 (a .logs) (f .logs)) (there : Room f 0 (b .logs) (f .logs))
-    (logs : length (a .logs) ≡ phases (f .store)) (same : length (b .logs) ≡ phases (f .store))
-    (grows : (p : ℕ) → take (length (logOf a p)) (logOf b p) ≡ logOf a p) where
-  log-grows : (p : ℕ) → length (logOf a p) ≤ length (logOf b p)
-  log-grows p = omega (arith, sym (length-take (length (logOf a p)) (logOf b p)) ∙ ap length (grows p))
-
-  entry-kept : (it : List ℕ) → EntryItem f a it → EntryItem f b it
-  entry-kept it e =
+-- logs fit into the log memory, and each stands in its place
+module _ (f : Fed) (begun : Begun f) (logs : List (List ℕ)) (ok : Logs f logs) where
+  pub logs-room : Room f 0 logs (f .logs)
+  logs-room =
       record {
-        kind = e .kind;
-        long = e .long;
-        low = e .low;
-        high = e .high;
-        some = e .some;
-        few = e .few;
-        inside = omega (arith, log-grows (phaseOf it));
+        long = λ q low high. omega (arith, begun .memory, log-inside (f .store) q (phases (f .store)) low (omega (arith, ok .count)));
+        sizes = ok .sizes;
       }
 
-  data-kept : (it : List ℕ) → EntryItem f a it ⊎ FillerItem f it → dataOf (f .store) (logsLeft f a) it ≡ dataOf (f .store) (logsLeft f b) it
-  unfolding dataOf
-  data-kept it (inl e) =
-      let longer = log-grows (phaseOf it) in
-      ap (λ (d : List ℕ). cond (eqb (getD it 0 0) 2) d [])
-      (log-part f a here (phaseOf it) (logOffset it) (dataLength it) (e .low) (omega arith) (e .inside)
-      ∙ part-same (logOf a (phaseOf it)) (logOf b (phaseOf it)) (logOffset it) (dataLength it) (omega arith) (omega arith)
-      (ap (take (logOffset it + dataLength it)) (sym (grows (phaseOf it)))
-      ∙ take-take (logOffset it + dataLength it) (length (logOf a (phaseOf it))) (logOf b (phaseOf it)) (e .inside))
-      ∙ sym (log-part f b there (phaseOf it) (logOffset it) (dataLength it) (e .low) (omega arith) (omega arith)))
-  data-kept it (inr e) = rw (e .kind)
+  pub log-part : (p at size : ℕ) → 1 ≤ p → p ≤ phases (f .store) → at + size ≤ length (logIn logs p)
+      → part (memoryWith f logs) (logPlace (f .store) p + at) size ≡ part (logIn logs p) at size
+  log-part p at size low high within =
+      sym (ap (take size) (drop-drop at (logPlace (f .store) p) (memoryWith f logs)))
+      ∙ part-of-front (drop (logPlace (f .store) p) (memoryWith f logs)) at size (length (logIn logs p)) within
+      ∙ ap (λ (l : List ℕ). part l at size) (placed-log f 0 logs (f .logs) logs-room (p - 1) p (omega (arith, ok .count)) (omega arith))
 
-  pub item-kept : (k : ℕ) (it : List ℕ) → ItemAt f a k it → ItemAt f b k it
+-- an item stays what it is when logs grow behind their ends
+module _ (f : Fed) (begun : Begun f) (logs more : List (List ℕ)) (ok : Logs f logs) (too : Logs f more)
+    (grows : (p : ℕ) → take (length (logIn logs p)) (logIn more p) ≡ logIn logs p) where
+  in-log : (it : List ℕ) → InLog f logs it → InLog f more it
+  in-log it e =
+      let p = phaseOf it in
+      let longer = sym (length-take (length (logIn logs p)) (logIn more p)) ∙ ap length (grows p) in
+      record { low = e .low; high = e .high; some = e .some; few = e .few; inside = omega (arith, e .inside) }
+
+  data-kept : (k : ℕ) (it : List ℕ) → ItemAt f logs k it → dataOf (f .store) (memoryWith f logs) it ≡ dataOf (f .store) (memoryWith f more) it
+  unfolding dataOf
+  data-kept k it i = go (i .form)
+    where
+      go : EntryOf (f .store) it ⊎ FillerOf (f .store) it → dataOf (f .store) (memoryWith f logs) it ≡ dataOf (f .store) (memoryWith f more) it
+      go (inl entry) =
+          let p = phaseOf it in
+          let e = i .ranges (entry .0) in
+          ap (λ (d : List ℕ). cond (isEntry it) d [])
+          (log-part f begun logs ok p (logOffset it) (dataLength it) (e .low) (e .high) (e .inside)
+          ∙ sym
+          (log-part f begun more too p (logOffset it) (dataLength it) (e .low) (e .high) (in-log it e .inside)
+          ∙ part-of-front (logIn more p) (logOffset it) (dataLength it) (length (logIn logs p)) (e .inside)
+          ∙ ap (λ (l : List ℕ). part l (logOffset it) (dataLength it)) (grows p)))
+      go (inr filler) = rw (filler .0)
+
+  pub item-kept : (k : ℕ) (it : List ℕ) → ItemAt f logs k it → ItemAt f more k it
   unfolding messageOf
   item-kept k it i =
       record {
-        form = moved (i .form);
+        form = i .form;
+        ranges = λ kind. in-log it (i .ranges kind);
         chunk = i .chunk;
         offset = i .offset;
         tag = i .tag
             ∙ ap (λ (d : List ℕ). tagOf (f .store) (keyAt (f .store) (chunkOf (ratchet (f .store)) k) (offsetOf (ratchet (f .store)) k)) (headOf it ++ d))
-            (data-kept it (i .form));
+            (data-kept k it i);
       }
-    where
-      moved : EntryItem f a it ⊎ FillerItem f it → EntryItem f b it ⊎ FillerItem f it
-      moved (inl e) = inl (entry-kept it e)
-      moved (inr e) = inr e

@@ -1,39 +1,38 @@
 -- Open finds the state that the account holds, and a refused open leaves a state of zeros, which is held with no items standing.
 use mathlib.Core.Path.{_≡_, refl, sym, ap, _∙_}
 use mathlib.Core.Bool.{Bool, true, false, _||_, cond}
-use mathlib.Core.Logic.{_⊎_, inl, inr}
+use mathlib.Core.Logic.{by-cases}
 use mathlib.Core.List.{List, [], _∷_, _++_}
-use Prim.Native.Nat.{ℕ, suc, _+_, _-_, _≤_, _<_}
+use Prim.Native.Nat.{ℕ, suc, _+_, _-_, _<_}
 use native.Mathlib.Nat.{le-mul-of-pos-right}
+use native.Mathlib.Decide.{decLt}
 use native.Mathlib.Omega.{arith}
 use lib.Dec.{eqb, ltb}
 use lib.ListN.{length, getD, replicate, replicate-append-replicate, List·getD-eq-default}
 use borrow.Author.Tests.{eqb-true, ltb-false, lt-ltb, le-ltb, eq-eqb}
 use Rattle.scheme.specs.Rules.{refusalBy, someFrom, row}
-use Rattle.scheme.specs.Store.{phases, chunkCount, burned, burnedFront, burnedLater, badLengths}
+use Rattle.scheme.specs.Store.{phases, chunkCount, burned, burnedFront, burnedLater}
 use Rattle.scheme.specs.State.{zeroState, openedState}
 use Rattle.scheme.specs.Sealer.{openRules, opens}
-use Rattle.scheme.specs.Audit.{areasIn}
-use Rattle.claims.specs.Account.{Call, Open, Fed, Account, lengthsReached, sealReached, carried, dueKey, withLost, accountOpenRules, accountRefusal, accountCount, accountDone, accountRefused, Allowed}
+use Rattle.scheme.specs.Areas.{areasIn}
 use Rattle.scheme.specs.Bytes.{joined}
-use Rattle.claims.specs.Claim.{Starts, storeLeft, logsLeft, sealLeft}
-use Rattle.claims.proofs.Good.{Good, Runs, none}
+use Rattle.scheme.proofs.Scans.{same-scan, same-row, row-most, row-is}
+use Rattle.scheme.proofs.Headers.{same-bad-lengths}
+use Rattle.scheme.proofs.Runs.{run-ends}
+use Rattle.claims.specs.Account.{Call, Open, Fed, Account, lengthsReached, sealReached, carried, dueKey, withLost, accountOpenRules, accountRefusal, accountCount, accountDone, accountRefused, Allowed}
+use Rattle.claims.specs.Claim.{storeLeft, logsLeft, sealLeft}
+use Rattle.claims.proofs.Good.{Good}
 use Rattle.claims.proofs.Steps.Agrees.{Agrees, answer-done, step-done, answer-refused, step-refused, same-device}
-use Rattle.claims.proofs.Steps.Begun.{Begun, begun}
-use Rattle.claims.proofs.Steps.Device.{eight, held, stateOf, deviceOf, lengths-length, lengths-none, left-phases, left-count, left-bad, left-bad-logs, left-seal}
+use Rattle.claims.proofs.Steps.Begun.{Begun}
+use Rattle.claims.proofs.Steps.Device.{eight, held, stateOf, deviceOf, lengths-length, lengths-none, left-fields, left-bad, left-bad-logs, left-seal}
 use Rattle.claims.proofs.Invariant.{done-good, refused-good}
-use Rattle.claims.proofs.Steps.Scans.{row-same, row-ends, row-at-most, some-same}
-use Rattle.claims.proofs.Steps.StoreLeft.{front, chunk-at-most, carried-front, store-left, burned-left}
-use Rattle.claims.proofs.Steps.Tests.{below-or-above}
+use Rattle.claims.proofs.Steps.StoreLeft.{front, front-whole, chunk-at-most, carried-front, store-left, burned-left}
 
 -- ---- with no items
 
 no-items : (items : List (List ℕ)) → length items ≡ 0 → items ≡ []
 no-items [] e = refl
-no-items (it ∷ items) e = let never : ⊥ = omega arith in absurd never
-
-no-runs : {n m : ℕ} → Runs n [] m → m ≡ n
-no-runs none = refl
+no-items (it ∷ items) e = absurd (omega arith)
 
 -- at offset 0 no key is held
 first-key : (f : Fed) (a : Account) → a .r .0 ≡ 0 → held f a .key ≡ replicate 32 0
@@ -42,13 +41,12 @@ first-key f a e = ap (λ (t : Bool). cond t (replicate 32 0) (dueKey f a)) (eq-e
 module _ (f : Fed) (begun : Begun f) (a : Account) (good : Good f a) (empty : length (a .items) ≡ 0) where
   no-log : (i : ℕ) → length (getD (a .logs) i []) ≡ 0
   unfolding areasIn
-  no-log i = go (below-or-above i (phases (f .store)))
-    where
-      go : (i < phases (f .store)) ⊎ (phases (f .store) ≤ i) → length (getD (a .logs) i []) ≡ 0
-      go (inl below) =
-          let there : suc i - 1 ≡ i = omega arith in
-          rw there at (no-runs (rw (no-items (a .items) empty) at (good .runs (suc i) (omega arith) (omega arith))))
-      go (inr above) = ap length (List·getD-eq-default (a .logs) [] (omega arith))
+  no-log i =
+      by-cases (decLt i (phases (f .store)))
+      (λ below.
+      let there : suc i - 1 ≡ i = omega arith in
+      rw there at (run-ends (rw (no-items (a .items) empty) at (good .runs (suc i) (omega arith) (omega arith)))))
+      (λ above. ap length (List·getD-eq-default (a .logs) [] (omega arith)))
 
   no-lengths : eight (a .logs) ≡ replicate 8 0
   no-lengths =
@@ -62,7 +60,7 @@ module _ (f : Fed) (begun : Begun f) (a : Account) (good : Good f a) (empty : le
   no-seal = rw (no-items (a .items) empty)
 
   no-chunk : a .c .0 ≡ 0
-  no-chunk = omega (arith, le-mul-of-pos-right (a .c .0) (begun .store .ratchet-low))
+  no-chunk = omega (arith, le-mul-of-pos-right (a .c .0) (begun .store .ratchetLow))
 
   no-offset : a .r .0 ≡ 0
   no-offset = omega arith
@@ -80,37 +78,36 @@ module _ (f : Fed) (begun : Begun f) (a : Account) (good : Good f a) (empty : le
 
 -- ---- open
 
-module _ (f : Fed) (starts : Starts f) (a : Account) (good : Good f a) where
+module _ (f : Fed) (begun : Begun f) (a : Account) (good : Good f a) where
   burned-front : burnedFront (storeLeft f a) ≡ row (carried a) 0 (chunkCount (f .store))
   unfolding burnedFront
   burned-front =
-      rw (left-count f (begun f starts) a good)
-      (row-same (burned (storeLeft f a)) (carried a) 0 (chunkCount (f .store))
-      (λ x h. burned-left f a good (begun f starts .store) (starts .unused) x (omega arith)))
+      rw (left-fields f begun a good .chunkCount)
+      (same-row (burned (storeLeft f a)) (carried a) 0 (chunkCount (f .store))
+      (λ x low high. burned-left f a good (begun .store) (begun .unused) x (omega arith)))
 
   burned-later : burnedLater (storeLeft f a)
       ≡ someFrom (carried a) (row (carried a) 0 (chunkCount (f .store))) (chunkCount (f .store) - row (carried a) 0 (chunkCount (f .store)))
   unfolding burnedLater
   burned-later =
       let first = row (carried a) 0 (chunkCount (f .store)) in
-      let most = row-at-most (carried a) 0 (chunkCount (f .store)) in
-      rw (burned-front, left-count f (begun f starts) a good)
-      (some-same (burned (storeLeft f a)) (carried a) first (chunkCount (f .store) - first)
-      (λ x h. burned-left f a good (begun f starts .store) (starts .unused) x (omega arith)))
+      let most = row-most (carried a) 0 (chunkCount (f .store)) in
+      rw (burned-front, left-fields f begun a good .chunkCount)
+      (same-scan (burned (storeLeft f a)) (carried a) first (chunkCount (f .store) - first)
+      (λ x low high. burned-left f a good (begun .store) (begun .unused) x (omega arith)))
 
   -- at offset 0 the burned chunks at the front are those before the due one
   front-due : a .r .0 ≡ 0 → burnedFront (storeLeft f a) ≡ a .c .0
   front-due e =
-      let test = eq-eqb (a .r .0) 0 e in
-      let ends : front a ≡ a .c .0 = rw test in
+      let ends = front-whole a e in
       burned-front
-      ∙ row-ends (carried a) 0 (a .c .0) (chunkCount (f .store)) (chunk-at-most f a good (begun f starts .store))
-      (λ x h. carried-front f a good (begun f starts .store) (0 + x) ∙ lt-ltb (0 + x) (front a) (omega arith))
-      (λ h. carried-front f a good (begun f starts .store) (0 + a .c .0) ∙ le-ltb (0 + a .c .0) (front a) (omega arith))
+      ∙ row-is (carried a) 0 (chunkCount (f .store)) (a .c .0) (chunk-at-most f a good (begun .store))
+      (λ x low high. carried-front f a good (begun .store) x ∙ lt-ltb x (front a) (omega arith))
+      (λ h. carried-front f a good (begun .store) (0 + a .c .0) ∙ le-ltb (0 + a .c .0) (front a) (omega arith))
 
   -- losing or finding the state changes no store
   store-same : (lost : Bool) → Good f (withLost a lost) → storeLeft f a ≡ storeLeft f (withLost a lost)
-  store-same lost moved = store-left f a good (begun f starts .store) ∙ sym (store-left f (withLost a lost) moved (begun f starts .store))
+  store-same lost moved = store-left f a good (begun .store) ∙ sym (store-left f (withLost a lost) moved (begun .store))
 
   zero-held : zeroState ≡ stateOf f (withLost a (a .lost || ltb 0 (length (a .items))))
   zero-held = go (a .lost) (ltb 0 (length (a .items))) (good .standing) refl
@@ -119,22 +116,18 @@ module _ (f : Fed) (starts : Starts f) (a : Account) (good : Good f a) where
       go true u standing e = refl
       go false true standing e = refl
       go false false standing e =
-          sym (empty-held f (begun f starts) a good (omega (arith, ltb-false 0 (length (a .items)) e)))
+          sym (empty-held f begun a good (omega (arith, ltb-false 0 (length (a .items)) e)))
 
   module _ (lengths : List ℕ) (sealLength : ℕ) where
-    bad-lengths : badLengths (storeLeft f a) lengths ≡ badLengths (f .store) lengths
-    unfolding badLengths
-    bad-lengths = rw (left-phases f (begun f starts) a good)
-
     open-refusal : refusalBy (openRules (storeLeft f a) (logsLeft f a) lengths (sealLeft f a) sealLength) ≡ accountRefusal f a (Open lengths sealLength)
     unfolding openRules accountRefusal accountOpenRules
     open-refusal =
         rw (
-          left-bad f (begun f starts) a good,
-          left-bad-logs f (begun f starts) a good,
+          left-bad f begun a good,
+          left-bad-logs f begun a good,
           burned-later,
-          bad-lengths,
-          left-seal f (begun f starts) a good,
+          same-bad-lengths (storeLeft f a) (f .store) (left-fields f begun a good) lengths,
+          left-seal f begun a good,
         )
 
     opened-held : a .r .0 ≡ 0 → lengths ≡ lengthsReached a → sealLength ≡ sealReached a → openedState (storeLeft f a) lengths sealLength ≡ held f a
@@ -174,13 +167,13 @@ module _ (f : Fed) (starts : Starts f) (a : Account) (good : Good f a) where
             record {
               answer = ap (λ (n : ℕ). record { refusal = n; count = 0 }) none ∙ sym (answer-done f a call none);
               device = same-device (opened-held (given .0) (given .1) (given .2))
-                  (store-same false (done-good f (begun f starts) a call good none)) refl refl
+                  (store-same false (done-good f begun a call good none)) refl refl
                   ∙ ap (deviceOf f) (sym (step-done f a call none));
             }
         go false e =
             record {
               answer = sym (answer-refused f a call e);
               device = same-device zero-held
-                  (store-same (a .lost || ltb 0 (length (a .items))) (refused-good f (begun f starts) a call good)) refl refl
+                  (store-same (a .lost || ltb 0 (length (a .items))) (refused-good f begun a call good)) refl refl
                   ∙ ap (deviceOf f) (sym (step-refused f a call e));
             }

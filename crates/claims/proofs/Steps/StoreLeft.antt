@@ -1,59 +1,56 @@
 -- The store that an account leaves is the unused one with zeros at its first chunks, and its burned chunks are those carried.
 use mathlib.Core.Path.{_≡_, refl, sym, ap, _∙_}
-use mathlib.Core.Bool.{Bool, true, false, cond}
-use mathlib.Core.Logic.{_⊎_, inl, inr}
+use mathlib.Core.Bool.{cond}
+use mathlib.Core.Logic.{by-cases}
 use mathlib.Core.List.{List}
 use Prim.Native.Nat.{ℕ, zero, suc, _+_, _-_, _*_, _≤_, _<_}
-use native.Mathlib.Nat.{suc-mul, zero-add, add-zero, add-suc, le-of-mul-le-mul-right, lt-of-mul-lt-mul-right}
+use native.Mathlib.Nat.{suc-mul, add-zero, add-suc, mul-le-mul-right, le-of-mul-le-mul-right, lt-of-mul-lt-mul-right}
+use native.Mathlib.Decide.{ℕ-discrete, decLt}
 use native.Mathlib.Omega.{arith}
 use lib.Dec.{eqb, ltb}
 use lib.ListN.{length}
-use borrow.Author.Tests.{eqb-true, eqb-false, lt-ltb, le-ltb}
-use Rattle.scheme.specs.Bytes.{allZero}
-use Rattle.scheme.specs.Store.{chunkCount, ratchet, burned, anyBurned}
+use borrow.Author.Tests.{eq-eqb, ne-eqb, lt-ltb, le-ltb}
+use Rattle.scheme.specs.Store.{chunkCount, ratchet, burned}
+use Rattle.scheme.specs.Acceptable.{KeyStore, Burned}
+use Rattle.scheme.proofs.Tests.{same-ltb}
+use Rattle.scheme.proofs.Burning.{zeroed, zeroed-fields, zeroed-store, zeroed-later, zeroed-burned}
+use Rattle.scheme.proofs.Acceptance.Stores.{burned-is, unburned-is}
 use Rattle.claims.specs.Account.{Fed, Account, carried}
 use Rattle.claims.specs.Claim.{burnedUpTo, storeLeft}
 use Rattle.claims.proofs.Good.{Good}
-use Rattle.claims.proofs.Steps.Scans.{some-none}
-use Rattle.claims.proofs.Steps.Sound.{Sound}
-use Rattle.claims.proofs.Steps.Tests.{same-ltb, below-or-above}
-use Rattle.claims.proofs.Steps.Zeroed.{zeroed, zeroed-later, zeroed-burned}
 
 -- how many chunks are burned
 abbrev pub front : Account → ℕ
 front a = cond (eqb (a .r .0) 0) (a .c .0) (suc (a .c .0))
 
-module _ (f : Fed) (a : Account) (good : Good f a) (ok : Sound (f .store)) where
+pub front-whole : (a : Account) → a .r .0 ≡ 0 → front a ≡ a .c .0
+front-whole a e = rw (eq-eqb (a .r .0) 0 e)
+
+module _ (f : Fed) (a : Account) (good : Good f a) (ok : KeyStore (f .store)) where
   pub chunk-at-most : a .c .0 ≤ chunkCount (f .store)
   chunk-at-most = le-of-mul-le-mul-right {k = ratchet (f .store)} (omega arith) (omega arith)
 
   pub chunk-below : 0 < a .r .0 → a .c .0 < chunkCount (f .store)
   chunk-below h = lt-of-mul-lt-mul-right (ratchet (f .store)) (omega arith)
 
+  -- the burned chunks have keys for all items, and without the last one they have not
+  front-keys : (length (a .items) ≤ front a * ratchet (f .store)) × (front a * ratchet (f .store) < length (a .items) + ratchet (f .store))
+  front-keys =
+      by-cases (ℕ-discrete (a .r .0) 0)
+      (λ none. rw (eq-eqb (a .r .0) 0 none) (omega arith, omega arith))
+      (λ some. rw (ne-eqb (a .r .0) 0 some, suc-mul) (omega arith, omega arith))
+
   pub front-at-most : front a ≤ chunkCount (f .store)
-  front-at-most = go (eqb (a .r .0) 0) refl
-    where
-      go : (t : Bool) → eqb (a .r .0) 0 ≡ t → cond t (a .c .0) (suc (a .c .0)) ≤ chunkCount (f .store)
-      go true e = chunk-at-most
-      go false e = let apart = eqb-false (a .r .0) 0 e in chunk-below (omega arith)
+  front-at-most =
+      let below : front a < suc (chunkCount (f .store)) = lt-of-mul-lt-mul-right (ratchet (f .store)) (rw suc-mul (omega (arith, front-keys))) in
+      omega arith
 
   pub carried-front : (x : ℕ) → carried a x ≡ ltb x (front a)
-  carried-front x = good .burned x ∙ go (eqb (a .r .0) 0) refl
-    where
-      next : suc (a .c .0) * ratchet (f .store) ≡ a .c .0 * ratchet (f .store) + ratchet (f .store)
-      next = suc-mul (a .c .0) (ratchet (f .store))
-
-      go : (t : Bool) → eqb (a .r .0) 0 ≡ t → ltb (x * ratchet (f .store)) (length (a .items)) ≡ ltb x (cond t (a .c .0) (suc (a .c .0)))
-      go true e =
-          let none = eqb-true (a .r .0) 0 e in
-          same-ltb (x * ratchet (f .store)) (length (a .items)) x (a .c .0)
-          (λ h. lt-of-mul-lt-mul-right (ratchet (f .store)) (omega arith))
-          (λ h. le-of-mul-le-mul-right {k = ratchet (f .store)} (omega arith) (omega arith))
-      go false e =
-          let apart = eqb-false (a .r .0) 0 e in
-          same-ltb (x * ratchet (f .store)) (length (a .items)) x (suc (a .c .0))
-          (λ h. lt-of-mul-lt-mul-right (ratchet (f .store)) (omega arith))
-          (λ h. lt-of-mul-lt-mul-right (ratchet (f .store)) (omega arith))
+  carried-front x =
+      let n = ratchet (f .store) in
+      good .burned x
+      ∙ same-ltb (x * n) (length (a .items)) x (front a)
+      ((λ h. lt-of-mul-lt-mul-right n (omega (arith, front-keys))), (λ h. omega (arith, suc-mul x n, mul-le-mul-right n h, front-keys)))
 
   burned-low : (n : ℕ) → n ≤ front a → burnedUpTo f a n ≡ zeroed (f .store) n
   unfolding burnedUpTo zeroed
@@ -72,13 +69,17 @@ module _ (f : Fed) (a : Account) (good : Good f a) (ok : Sound (f .store)) where
       ap (burnedUpTo f a) there ∙ burned-high (chunkCount (f .store) - front a)
 
   -- where the store was unused, the burned chunks are those carried
-  pub burned-left : anyBurned (f .store) ≡ false → (x : ℕ) → x < chunkCount (f .store) → burned (storeLeft f a) x ≡ carried a x
-  unfolding anyBurned burned
-  burned-left unused x h = ap (λ (st : List ℕ). burned st x) store-left ∙ go (below-or-above x (front a)) ∙ sym (carried-front x)
-    where
-      go : (x < front a) ⊎ (front a ≤ x) → burned (zeroed (f .store) (front a)) x ≡ ltb x (front a)
-      go (inl before) = zeroed-burned (f .store) ok (front a) front-at-most x before ∙ sym (lt-ltb x (front a) before)
-      go (inr late) =
-          ap allZero (zeroed-later (f .store) ok (front a) front-at-most x late)
-          ∙ rw zero-add at (some-none (burned (f .store)) 0 (chunkCount (f .store)) unused x h)
-          ∙ sym (le-ltb x (front a) late)
+  pub burned-left : ((x : ℕ) → x < chunkCount (f .store) → Burned (f .store) x → ⊥)
+      → (x : ℕ) → x < chunkCount (f .store) → burned (storeLeft f a) x ≡ carried a x
+  burned-left unused x h =
+      let st = f .store in
+      let n = front a in
+      let store = zeroed-store st ok n front-at-most in
+      let below : x < chunkCount (zeroed st n) = omega (arith, zeroed-fields st ok n front-at-most .chunkCount) in
+      ap (λ (l : List ℕ). burned l x) store-left
+      ∙ by-cases (decLt x n)
+      (λ before. burned-is (zeroed st n) store x below .1 (zeroed-burned st ok n front-at-most x before) ∙ sym (lt-ltb x n before))
+      (λ late.
+      let same = zeroed-later st ok n front-at-most x (omega arith) in
+      unburned-is (zeroed st n) store x below .1 (λ is. unused x h (sym same ∙ is)) ∙ sym (le-ltb x n (omega arith)))
+      ∙ sym (carried-front x)
