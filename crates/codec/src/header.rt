@@ -2,6 +2,15 @@
 ghost use mathlib.Core.Path.{_≡_};
 ghost use Rattle.codec.specs.Header.{readHeader};
 ghost use Rattle.scheme.specs.Rules as Rules;
+use crate::layout::DATA_LIMIT;
+use crate::layout::HEADER_LENGTH;
+use crate::layout::LOG_CAPACITY;
+use crate::layout::MAX_CHUNKS;
+use crate::layout::MAX_PHASES;
+use crate::layout::MAX_RATCHET;
+use crate::layout::STORE_KIND;
+use crate::layout::TAG_LENGTH;
+use crate::places::chunk_place;
 use crate::words::read_u32;
 use crate::words::wide;
 use scheme::Header;
@@ -12,24 +21,11 @@ pub enum Reading {
     Bad,
 }
 
-// Bytes of a key store's header and of a chunk.
-pub const HEADER_LENGTH: usize = 18;
-
-pub const CHUNK_LENGTH: usize = 32;
-
-const STORE_KIND: u8 = 1;
-
-const MAX_PHASES: u32 = 8;
-
-const MAX_CHUNKS: u32 = 1024;
-
-const MAX_RATCHET: u32 = 256;
-
 // The header, where the bytes are a store of the kind, the counts and the length that one may have.
 pub fn read_header(store: &[u8]) -> Reading
     ensures { λ r. ⌜ r ≡ readHeader (now (store .entry)) ⌝ }
 {
-    if store.len() < HEADER_LENGTH {
+    if store.len() < HEADER_LENGTH as usize {
         return Reading::Bad;
     }
     if store[0] != STORE_KIND {
@@ -47,13 +43,17 @@ pub fn read_header(store: &[u8]) -> Reading
     if outside(1, MAX_RATCHET, ratchet) {
         return Reading::Bad;
     }
-    if store.len() != HEADER_LENGTH + CHUNK_LENGTH * (chunks as usize) {
+    if store.len() != chunk_place(HEADER_LENGTH, chunks) {
         return Reading::Bad;
     }
     Reading::Store(Header {
         phases,
         chunks,
         ratchet,
+        header_length: HEADER_LENGTH,
+        tag_length: TAG_LENGTH,
+        data_limit: DATA_LIMIT,
+        log_capacity: LOG_CAPACITY,
     })
 }
 

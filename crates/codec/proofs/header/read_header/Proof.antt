@@ -3,12 +3,14 @@
 use mathlib.Core.Path.{_≡_, ap, sym, _∙_}
 use Prim.Native.Nat.{_+_, _*_}
 use mathlib.Core.Bool.{not}
+use native.Mathlib.Omega.{arith}
 use borrow.Author.Tests.{lt-ltb, ne-eqb}
 use lib.ListN.{length, getD}
 use Rattle.scheme.specs.Rules.{outside}
-use Rattle.scheme.specs.Store.{badStore, phases, chunkCount, ratchet}
+use Rattle.scheme.specs.Store.{headerLength, chunkPlace, badStore, phases, chunkCount, ratchet}
 use Rattle.scheme.proofs.Rules.{any-at}
-use Rattle.codec.proofs.Headers.{bad, good}
+use Rattle.scheme.proofs.Parameters.{header-value}
+use Rattle.codec.proofs.Headers.{bad, good-header}
 use borrow.Author.Needs.{needs}
 use Rattle.codec.proofs.header.read_header.Statement.{statement}
 use Rattle.codec.proofs.header.read_header.Tie as tie
@@ -40,11 +42,14 @@ ratchet-read c = c .read-u322 .ensures
 ratchet-test : (c : tie.After-outside3) → outside 1 256 (ratchet (start-3 c .args .store .now)) ≡ c .outside3 .result
 ratchet-test c = sym (c .outside3 .ensures ∙ ap (outside 1 256) (ratchet-read (c .before)))
 
+cast-if1 : tie.Need-cast-if1
+cast-if1 c = search needs
+
 returns : tie.Need-returns
 unfolding badStore
 returns c =
     let st = c .before .before .args .store .now in
-    bad st (any-at _ 0 (lt-ltb (length st) 18 (c .if1 .taken)))
+    bad st (any-at _ 0 (lt-ltb (length st) (headerLength st) (omega (arith, header-value st, c .if1 .taken))))
 
 shared-slice-read-if2 : tie.Need-shared-slice-read-if2
 shared-slice-read-if2 c = search needs
@@ -88,45 +93,45 @@ returns-5 : tie.Need-returns-5
 unfolding badStore
 returns-5 c = bad (start-3 (c .before) .args .store .now) (any-at _ 4 (ratchet-test (c .before) ∙ c .if5 .taken))
 
-cast-if6 : tie.Need-cast-if6
-cast-if6 c = search needs
+chunk-place-requires : tie.Need-chunk-place-requires
+chunk-place-requires c κs = search needs
 
-mul-if6 : tie.Need-mul-if6
-mul-if6 c = search needs
-
-add-if6 : tie.Need-add-if6
-add-if6 c = search needs
+-- the length that the store is to have
+size : (c : tie.After-chunk-place) → let st = start-3 (c .before .before) .args .store .now in c .chunk-place .result ≡ chunkPlace st (chunkCount st)
+size c =
+    let found = c .before .before in
+    omega (arith, c .chunk-place .ensures, header-value (start-3 found .args .store .now), chunks-read (found .before .before .before .before))
 
 returns-6 : tie.Need-returns-6
 unfolding badStore
 returns-6 c =
-    let found = c .before .before .before .before .before in
-    let st = start-2 found .args .store .now in
-    let size = ap (λ k. 18 + 32 * k) (sym (chunks-read (found .before))) in
-    bad st (any-at _ 5 (ap not (ne-eqb (length st) (18 + 32 * chunkCount st) (λ e. c .if6 .taken (e ∙ size)))))
+    let st = start-3 (c .before .before .before) .args .store .now in
+    bad st (any-at _ 5 (ap not (ne-eqb (length st) (chunkPlace st (chunkCount st)) (λ e. c .if6 .taken (e ∙ sym (size (c .before)))))))
 
 returns-7 : tie.Need-returns-7
 unfolding phases
 returns-7 c =
-    let ratchet-found = c .before .before in
+    let ratchet-found = c .before .before .before in
     let chunks-found = ratchet-found .before .before .before in
     let phases-found = chunks-found .before .before .before in
     let kind-found = phases-found .before .before .before in
-    good
-    (start phases-found .args .store .now)
-    (kind-found .before .before .if1 .left)
+    let st = start phases-found .args .store .now in
+    good-header
+    st
+    (omega (arith, header-value st, kind-found .before .before .if1 .left))
     (kind-found .if2 .left)
     (phases-test phases-found ∙ chunks-found .before .before .if3 .left)
     (chunks-read (chunks-found .before))
     (chunks-test chunks-found ∙ ratchet-found .before .before .if4 .left)
     (ratchet-read (ratchet-found .before))
-    (ratchet-test ratchet-found ∙ c .before .if5 .left)
-    (c .if6 .left)
+    (ratchet-test ratchet-found ∙ c .before .before .if5 .left)
+    (c .if6 .left ∙ size (c .before) ∙ ap (chunkPlace st) (sym (chunks-read (chunks-found .before))))
 
 pub read-header-spec : {M : Type 1} → statement M
 read-header-spec =
     tie.close
     (tie.spec
+    cast-if1
     returns
     shared-slice-read-if2
     returns-2
@@ -140,8 +145,6 @@ read-header-spec =
     read-u32-requires-2
     outside-requires-3
     returns-5
-    cast-if6
-    mul-if6
-    add-if6
+    chunk-place-requires
     returns-6
     returns-7)
