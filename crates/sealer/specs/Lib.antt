@@ -1,2 +1,2 @@
-pub mod Checked
-pub mod First
+-- What the crate's contracts cite beside the definitions of the crates below.
+pub mod Held
