@@ -8,9 +8,9 @@ use denote.Struct.Laws as LL
 use Rattle.scheme.specs.declared.State.{State}
 use Rattle.scheme.proofs.State as T
 use Rattle.scheme.proofs.State.Laws as T′
-use Rattle.pahyndoi.specs.declared.sealing.Packed.{Packed}
-use Rattle.pahyndoi.proofs.sealing.Packed as D
-use Rattle.pahyndoi.proofs.sealing.Packed.Laws as D′
+use Rattle.packed.specs.declared.sealing.Packed.{Packed}
+use Rattle.packed.proofs.sealing.Packed as D
+use Rattle.packed.proofs.sealing.Packed.Laws as D′
 
 abbrev pub R : RattleType
 R = T.the-row

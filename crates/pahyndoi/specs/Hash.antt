@@ -2,7 +2,7 @@
 use mathlib.Core.Path.{_≡_}
 use mathlib.Core.List.{List}
 use Prim.Native.Nat.{ℕ}
-use Rattle.sha256.specs.Fips.{sha256}
+use Rattle.compression.specs.Fips.{sha256}
 use Rattle.sha256.specs.Call.{within, refusalIf, bytesIf}
 use Rattle.hmac.specs.Rfc2104.{hmac}
 use Rattle.hmac.specs.Call.{both}

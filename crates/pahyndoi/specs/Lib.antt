@@ -1,3 +1,1 @@
 pub mod Hash
-pub mod Surface
-pub mod Audited

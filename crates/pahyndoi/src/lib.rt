@@ -1,19 +1,14 @@
 // What other languages call: built as a static library, declared in include/pahyndoi.h.
 ghost use mathlib.Core.Path.{_≡_};
 ghost use Rattle.pahyndoi.specs.Hash.{Hashed, Tagged};
-ghost use Rattle.pahyndoi.specs.Surface.{Opened, Appended, Closed};
-ghost use Rattle.pahyndoi.specs.Audited.{Audited};
+ghost use Rattle.packed.specs.Surface.{Opened, Appended, Closed};
+ghost use Rattle.packed.specs.Audited.{Audited};
 ghost use Rattle.sha256.specs.Call.{refusalOf};
-
-mod answers;
-mod auditing;
-mod sealing;
-
-use auditing::audit_packed;
+use packed::auditing::audit_packed;
+use packed::sealing::append_packed;
+use packed::sealing::close_packed;
+use packed::sealing::open_packed;
 use scheme::State;
-use sealing::append_packed;
-use sealing::close_packed;
-use sealing::open_packed;
 use sha256::Outcome;
 
 // The digest of the message and 0, or 32 zeros and refusal 1 where the message is too long.
@@ -60,7 +55,8 @@ pub extern "C" fn pahyndoi_open(
     seal: &[u8],
     seal_length: u64,
 ) -> u64
-    ensures { λ r. ⌜ Opened (now (store .entry)) (now (logs .entry)) (now (lengths .entry)) (now (seal .entry)) «seal_length» (record { code = r; state = now (state .exit) }) ⌝ }
+    ensures { λ r. ⌜ Opened (now (store .entry)) (now (logs .entry)) (now (lengths .entry)) (now (seal .entry)) «seal_length»
+        (record { code = r; state = now (state .exit) }) ⌝ }
 {
     let done = open_packed(store, logs, lengths, seal, seal_length);
     *state = done.state;
@@ -77,7 +73,9 @@ pub extern "C" fn pahyndoi_append(
     phase: u8,
     bytes: &[u8],
 ) -> u64
-    ensures { λ r. ⌜ Appended (now (state .entry)) (now (store .entry)) (now (logs .entry)) (now (seal .entry)) phase (now (bytes .entry)) (record { code = r; state = now (state .exit) }) (now (store .exit)) (now (logs .exit)) (now (seal .exit)) ⌝ }
+    ensures { λ r. ⌜ Appended
+        (now (state .entry)) (now (store .entry)) (now (logs .entry)) (now (seal .entry)) phase (now (bytes .entry))
+        (record { code = r; state = now (state .exit) }) (now (store .exit)) (now (logs .exit)) (now (seal .exit)) ⌝ }
 {
     let s = *state;
     let done = append_packed(s, store, logs, seal, phase, bytes);
@@ -93,7 +91,8 @@ pub extern "C" fn pahyndoi_close(
     logs: &[u8],
     seal: &mut [u8],
 ) -> u64
-    ensures { λ r. ⌜ Closed (now (state .entry)) (now (store .entry)) (now (logs .entry)) (now (seal .entry)) (record { code = r; state = now (state .exit) }) (now (seal .exit)) ⌝ }
+    ensures { λ r. ⌜ Closed (now (state .entry)) (now (store .entry)) (now (logs .entry)) (now (seal .entry))
+        (record { code = r; state = now (state .exit) }) (now (seal .exit)) ⌝ }
 {
     let s = *state;
     let done = close_packed(s, store, logs, seal);
@@ -110,7 +109,8 @@ pub extern "C" fn pahyndoi_audit(
     lengths: &[u8],
     seal: &[u8],
 ) -> u64
-    ensures { λ r. ⌜ Audited (now (device .entry)) (now (auditor .entry)) (now (logs .entry)) (now (lengths .entry)) (now (seal .entry)) r ⌝ }
+    ensures { λ r. ⌜ Audited (now (device .entry)) (now (auditor .entry)) (now (logs .entry)) (now (lengths .entry))
+        (now (seal .entry)) r ⌝ }
 {
     audit_packed(device, auditor, logs, lengths, seal)
 }

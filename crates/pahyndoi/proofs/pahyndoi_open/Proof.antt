@@ -1,5 +1,5 @@
 -- `pahyndoi::pahyndoi_open` meets its contract: `open_packed` is called on what is lent beside the state, and the state that it
--- returned is stored whole. A walk by hand, since it goes through a reference to a struct.
+-- returned is stored whole. A walk through a reference to a struct, written by tools/walk.
 use mathlib.Core.Path.{refl, ap}
 use Prim.Native.Nat.{ℕ, _<_, _^_}
 use mathlib.Core.List.{[], _∷_, List}
@@ -40,18 +40,18 @@ use denote.Triple.Clauses.{ensured, lasts}
 use denote.Triple.Table.{entered, cited}
 use denote.Triple.Walked.{says, Stays, stay-ref, stay-none, stay-none-slice, walkOf, AllGo, goes-none, goes-none-slice, goes-ref, Walks, ends-at, walked, walk-meets}
 use denote.Exit.{yes}
-use Rattle.pahyndoi.specs.Surface.{Opened}
+use Rattle.packed.specs.Surface.{Opened}
 use Rattle.scheme.specs.declared.State.{State}
-use Rattle.pahyndoi.specs.declared.sealing.Packed.{Packed}
+use Rattle.packed.specs.declared.sealing.Packed.{Packed}
 use Rattle.scheme.proofs.State as T
 use Rattle.scheme.proofs.State.Laws as T′
-use Rattle.pahyndoi.proofs.sealing.Packed as D
-use Rattle.pahyndoi.proofs.sealing.Packed.Laws as D′
+use Rattle.packed.proofs.sealing.Packed as D
+use Rattle.packed.proofs.sealing.Packed.Laws as D′
 use Rattle.pahyndoi.proofs.Held.{R, mach, code-fits, state-is}
-use Rattle.pahyndoi.proofs.sealing.open_packed as callee
-use Rattle.pahyndoi.proofs.sealing.open_packed.Symbol as callee-def
-use Rattle.pahyndoi.proofs.sealing.open_packed.Symbol.{name as #pahyndoi·open-packed}
-use Rattle.pahyndoi.proofs.sealing.open_packed.Met as callee-thm
+use Rattle.packed.proofs.sealing.open_packed as callee
+use Rattle.packed.proofs.sealing.open_packed.Symbol as callee-def
+use Rattle.packed.proofs.sealing.open_packed.Symbol.{name as #packed·open-packed}
+use Rattle.packed.proofs.sealing.open_packed.Met as callee-thm
 use Rattle.pahyndoi.proofs.pahyndoi_open.Key.{name as #pahyndoi·pahyndoi-open}
 use Rattle.pahyndoi.proofs.pahyndoi_open as self
 use Rattle.pahyndoi.proofs.pahyndoi_open.Statement as stated
@@ -138,13 +138,13 @@ module _ {M : Type 1} (𝓤 : URA M) (H : Heap 𝓤) (A : Atoms 𝓤) (W : Given
       feqI ! (List Val) (ptr-vals state) (ptr-vals state) refl $ fjoin3 ! $ nothing ! $ owned ! u64 (Is u64) (uint-makes 𝓤 H A W w64) sealLength _ (refl, sealLength-fits) $ fjoin ! $ move ! (5 ∷ 0 ∷ []) $ fjoin ! $ move ! (4 ∷ 0 ∷ []) $ fjoin ! $ move ! (3 ∷ 0 ∷ []) $ fjoin ! $ move ! (2 ∷ 0 ∷ []) $ fjoin ! $ move ! (1 ∷ 0 ∷ []) $ fjoin ! $
       frame ! $ owned ! u64 (Is u64) (uint-makes 𝓤 H A W w64) (r .code) _ (refl, code-fit) $ done !
 
-  module _ (C : Calls 𝓤 H) (Λ : Loops 𝓤 H) (fm : FmC 𝓤 H (W .laws) C) (known : Triple 𝓤 (C #pahyndoi·open-packed) (Callee 𝓤 H A at-mem run)) where
+  module _ (C : Calls 𝓤 H) (Λ : Loops 𝓤 H) (fm : FmC 𝓤 H (W .laws) C) (known : Triple 𝓤 (C #packed·open-packed) (Callee 𝓤 H A at-mem run)) where
     walk : Room u8 (length (store .now)) → Room u8 (length (logs .now)) → Room u32 (length (lengths .now)) → Room u8 (length (seal .now)) → ent 𝓤 (onEntry 𝓤 H A self.signature (κ, (κ₁, (κ₂, (κ₃, (κ₄, tt))))) (q, (q₁, (q₂, (q₃, (q₄, tt))))) the-args the-vals) (WpFn 𝓤 H C Λ code.function (vptr (state .ptr .0) (state .ptr .1) ∷ sliceVal (store .ptr) (length (store .now)) ∷ sliceVal (logs .ptr) (length (logs .now)) ∷ sliceVal (lengths .ptr) (length (lengths .now)) ∷ sliceVal (seal .ptr) (length (seal .now)) ∷ vint w64 sealLength ∷ []) Post)
     walk store-room logs-room lengths-room seal-room =
         qed W ((‵ (flft κ q) ⊛ Toks) ∷ ‵ (owns (MutRef (named 0) κ R ∷ ShrSlice (named 1) κ₁ u8 ∷ ShrSlice (named 2) κ₂ u8 ∷ ShrSlice (named 3) κ₃ u32 ∷ ShrSlice (named 4) κ₄ u8 ∷ u64 ∷ []) the-args the-vals) ∷ []) ∵ enter ! C Λ code.function (vptr (state .ptr .0) (state .ptr .1) ∷ sliceVal (store .ptr) (length (store .now)) ∷ sliceVal (logs .ptr) (length (logs .now)) ∷ sliceVal (lengths .ptr) (length (lengths .now)) ∷ sliceVal (seal .ptr) (length (seal .now)) ∷ vint w64 sealLength ∷ []) _ $
         alloc1 ! (λ l₀. alloc1 ! (λ l₁. alloc1 ! (λ l₂. alloc1 ! (λ l₃. alloc1 ! (λ l₄. alloc1 ! (λ l₅. alloc1 ! (λ l₆. alloc1 ! (λ l₇. alloc0 ! $ params1 ! $
         pass1 ! (init ! 12 refl (tt, tt)) $ pass1 ! (init ! 10 refl (tt, (tt, (record { fits = store-room .0 }, tt)))) $ pass1 ! (init ! 8 refl (tt, (tt, (record { fits = logs-room .0 }, tt)))) $ pass1 ! (init ! 6 refl (tt, (tt, (record { fits = lengths-room .0 }, tt)))) $ pass1 ! (init ! 4 refl (tt, (tt, (record { fits = seal-room .0 }, tt)))) $ pass1 ! (init ! 2 refl (tt, record { fits = sealLength-fits })) $ pass0 ! $
-        -- [_7; …; _6; …; _5; …; _4; …; _3; …; _2; …; _1; …; room for _0; …; the tokens; what the parameters own]: the borrow is opened
+        -- [_7; …; down to room for _0; …; the tokens; what the parameters own]: the borrow is opened
         move ! (17 ∷ []) $ fsplit ! $ fsplit3 ! $ drop ! $ move ! (19 ∷ []) $ split ! $ move ! (2 ∷ 3 ∷ 0 ∷ []) $
         opens ! tt R {h = state .now} (state .ptr .0) (state .ptr .1) (λ vs. spelt ! R (Is R) (shows 𝓤 H A R) mach (LL.tells T.the-type T′.the-laws) fullShare (state .now) vs (state .ptr .0) (state .ptr .1) $
         -- [the struct's cell; what it owns; the open borrow; obs; auth; the other tokens; what the other parameters own; _7 at 7; …]
@@ -155,7 +155,8 @@ module _ {M : Type 1} (𝓤 : URA M) (H : Heap 𝓤) (A : Atoms 𝓤) (W : Given
         split ! $ move ! (1 ∷ []) $ use1 W (some (λ (zs : Unit {0} × (Unit {0} × (Unit {0} × (Unit {0} × (Unit {0} × Unit {0}))))). ‵ (lasts callee.ended (κ₁, (κ₂, (κ₃, (κ₄, tt)))) (store, (logs, (lengths, (seal, (sealLength, tt))))) zs) ⊛ raw (fact 𝓤 (Said r)))) (id⊢ 𝓤 _) $ pick ! (λ zs.
         -- what the callee says of its result, and each slice's last list
         split ! $ move ! (1 ∷ []) $ heard ! (Said r) (λ e. fsplit ! $ drop ! $ fsplit ! $ drop ! $ fsplit ! $ drop ! $ fsplit ! $ drop ! $ fsplit ! $ drop ! $ drop ! $ move ! (0 ∷ []) $ split ! $ move ! (1 ∷ []) $
-        -- [what the Packed owns; the other tokens; the last lists, the last first; the kept slice; the struct's cell at 6; what it owns; the open borrow; obs; auth; _7 at 11; …]
+        -- [what the Packed owns; the other tokens; the last lists, the last first; the kept slice; the struct's cell at 6; what it owns;
+        -- the open borrow; obs; auth; _7 at 11; …]
         peeks ! D.the-row (Is D.the-row) (shows 𝓤 H A D.the-row) r (w ∷ []) (λ is.
         land ! (from ! (stop !)) (init ! 11 refl (LL.lawful D.the-type D′.the-laws 𝓤 H A W .typed r _ is .0)) $ rewrite ! 11 (λ (u : Val). ‵ (fat fullShare D′.mir l₇ 0 u)) (ap only (LL.tells D.the-type D′.the-laws r _ is)) refl $
         assigns ! (of-opd ! (load ! (from ! (fld ! refl (stop !))) (look-in ! 11 (sub ! 1 refl (whole !))))) (from ! (hop ! (look ! 23 refl) (stop !))) (store-raw ! 6 refl (LL.lawful T.the-type T′.the-laws 𝓤 H A W .typed (r .state) _ (state-is r _ is) .0)) $
@@ -168,7 +169,7 @@ module _ {M : Type 1} (𝓤 : URA M) (H : Heap 𝓤) (A : Atoms 𝓤) (W : Given
         keep ! (0 ∷ 1 ∷ 2 ∷ 4 ∷ 8 ∷ 7 ∷ 6 ∷ 5 ∷ []) $ by ! (exits r e (code-fits r _ is))))))))))))))))
 
 module _ {M : Type 1} (𝓤 : URA M) (H : Heap 𝓤) (A : Atoms 𝓤) (W : Given 𝓤 H A) (at-mem : Memory → SProp 𝓤) (run : Routine → Fun 𝓤) where
-  walks : (C : Calls 𝓤 H) (Λ : Loops 𝓤 H) → FmC 𝓤 H (W .laws) C → Triple 𝓤 (C #pahyndoi·open-packed) (Callee 𝓤 H A at-mem run) → Walks 𝓤 H A self.ended stayed (WpFn 𝓤 H C Λ code.function) (self.clauses 𝓤 H A at-mem run)
+  walks : (C : Calls 𝓤 H) (Λ : Loops 𝓤 H) → FmC 𝓤 H (W .laws) C → Triple 𝓤 (C #packed·open-packed) (Callee 𝓤 H A at-mem run) → Walks 𝓤 H A self.ended stayed (WpFn 𝓤 H C Λ code.function) (self.clauses 𝓤 H A at-mem run)
   walks C Λ fm known = walked 𝓤 H A self.ended stayed (self.clauses 𝓤 H A at-mem run) (WpFn 𝓤 H C Λ code.function)
       (λ κs. (ptr-vals, (slice-vals, (slice-vals, (slice-vals, (slice-vals, (uint-vals w64, tt))))))) (λ κs. (mut-tells (named 0) (κs .0) R, (shr-slice-tells (named 1) (κs .1 .0) u8, (shr-slice-tells (named 2) (κs .1 .1 .0) u8, (shr-slice-tells (named 3) (κs .1 .1 .1 .0) u32, (shr-slice-tells (named 4) (κs .1 .1 .1 .1 .0) u8, (uint-tells w64, tt)))))))
       (λ κs qs bounds a _ are. via 𝓤 _ (fst∗ 𝓤 _ (emp 𝓤))
@@ -177,7 +178,7 @@ module _ {M : Type 1} (𝓤 : URA M) (H : Heap 𝓤) (A : Atoms 𝓤) (W : Given
   all-go : AllGo 𝓤 H A W 5 (self.signature .params) (self.ended .kept) stayed
   all-go = (goes-ref 𝓤 H A W 5 0 tt (plain (λ _. R)), (goes-none-slice 𝓤 H A W 5 (1 ∷ []) tt (plain (λ _. u8)) yes, (goes-none-slice 𝓤 H A W 5 (2 ∷ []) tt (plain (λ _. u8)) yes, (goes-none-slice 𝓤 H A W 5 (3 ∷ []) tt (plain (λ _. u32)) yes, (goes-none-slice 𝓤 H A W 5 (4 ∷ []) tt (plain (λ _. u8)) yes, (goes-none 𝓤 H A W 5 (λ _. u64) yes (λ κs x f. refl), tt))))))
 
-meets : {M : Type 1} (𝓤 : URA M) (H : Heap 𝓤) (A : Atoms 𝓤) → Given 𝓤 H A → (at-mem : Memory → SProp 𝓤) (run : Routine → Fun 𝓤) (𝓣 : Tables 𝓤 H) → Triple 𝓤 (𝓣 .C #pahyndoi·open-packed) (Callee 𝓤 H A at-mem run)
+meets : {M : Type 1} (𝓤 : URA M) (H : Heap 𝓤) (A : Atoms 𝓤) → Given 𝓤 H A → (at-mem : Memory → SProp 𝓤) (run : Routine → Fun 𝓤) (𝓣 : Tables 𝓤 H) → Triple 𝓤 (𝓣 .C #packed·open-packed) (Callee 𝓤 H A at-mem run)
     → Meets 𝓤 H A self.signature (WpFn 𝓤 H (𝓣 .C) (𝓣 .Λ) code.function) (self.spec 𝓤 H A at-mem run)
 meets 𝓤 H A W at-mem run 𝓣 known = walk-meets 𝓤 H A self.ended stayed W (all-go 𝓤 H A W at-mem run) (self.clauses 𝓤 H A at-mem run) (WpFn 𝓤 H (𝓣 .C) (𝓣 .Λ) code.function) (WpFn-mono 𝓤 H (W .laws) 𝓣 code.function)
     (walks 𝓤 H A W at-mem run (𝓣 .C) (𝓣 .Λ) (fmOf 𝓤 H (W .laws) 𝓣) known)
@@ -188,4 +189,4 @@ pahyndoi-open-spec 𝓤 H 𝓜 𝓖 𝓡 =
     entered 𝓤 H (tripleOf 𝓤 H (𝓖 .A) self.signature (self.spec 𝓤 H (𝓖 .A) (𝓜 .mem) (𝓡 .run)))
     (tables 𝓤 H 𝓜 𝓡 code.env .C) (tables 𝓤 H 𝓜 𝓡 code.env .Λ) #pahyndoi·pahyndoi-open code.function (code.unfolded 𝓤 H 𝓜 𝓡)
     (meets 𝓤 H (𝓖 .A) (givenOf 𝓤 H 𝓜 𝓖) (𝓜 .mem) (𝓡 .run) (tablesOf 𝓤 H 𝓜 (tables 𝓤 H 𝓜 𝓡 code.env))
-    (cited 𝓤 H (Callee 𝓤 H (𝓖 .A) (𝓜 .mem) (𝓡 .run)) 𝓜 𝓡 code.env #pahyndoi·open-packed callee-def.routine code.calls-pahyndoi·sealing·open-packed (callee-thm.met 𝓤 H 𝓜 𝓖 𝓡)))
+    (cited 𝓤 H (Callee 𝓤 H (𝓖 .A) (𝓜 .mem) (𝓡 .run)) 𝓜 𝓡 code.env #packed·open-packed callee-def.routine code.calls-packed·sealing·open-packed (callee-thm.met 𝓤 H 𝓜 𝓖 𝓡)))

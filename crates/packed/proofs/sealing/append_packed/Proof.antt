@@ -1,9 +1,9 @@
--- `pahyndoi::sealing::append_packed` meets its contract: it packs the answer that `append` gives, whose count is an item's number.
+-- `packed::sealing::append_packed` meets its contract: it packs the answer that `append` gives, whose count is an item's number.
 use mathlib.Core.Path.{_∙_}
 use borrow.Author.Needs.{needs}
-use Rattle.pahyndoi.proofs.Packing.{appends-count, count-fits, packed-answer}
-use Rattle.pahyndoi.proofs.sealing.append_packed.Statement.{statement}
-use Rattle.pahyndoi.proofs.sealing.append_packed.Tie as tie
+use Rattle.packed.proofs.Packing.{appends-count, count-fits, packed-answer}
+use Rattle.packed.proofs.sealing.append_packed.Statement.{statement}
+use Rattle.packed.proofs.sealing.append_packed.Tie as tie
 
 append-requires : tie.Need-append-requires
 append-requires c κs = search needs

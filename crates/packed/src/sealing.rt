@@ -2,12 +2,12 @@
 ghost use mathlib.Core.Path.{_≡_};
 ghost use Prim.Native.Nat.{_<_, _^_};
 ghost use Rattle.scheme.specs.Answers.{outcomeRefusal, outcomeCount};
-ghost use Rattle.pahyndoi.specs.Surface.{packed, Opened, Appended, Closed};
+ghost use Rattle.packed.specs.Surface.{packed, Opened, Appended, Closed};
 use crate::answers::code;
-use crate::answers::refusal_number;
 use scheme::Outcome;
 use scheme::Sealed;
 use scheme::State;
+use scheme::refusal_number;
 
 // The answer in one word, and the state that the call gives.
 pub struct Packed {
@@ -37,7 +37,8 @@ pub fn append_packed(
     phase: u8,
     bytes: &[u8],
 ) -> Packed
-    ensures { λ r. ⌜ Appended state (now (store .entry)) (now (logs .entry)) (now (seal .entry)) phase (now (bytes .entry)) r (now (store .exit)) (now (logs .exit)) (now (seal .exit)) ⌝ }
+    ensures { λ r. ⌜ Appended state (now (store .entry)) (now (logs .entry)) (now (seal .entry)) phase (now (bytes .entry))
+        r (now (store .exit)) (now (logs .exit)) (now (seal .exit)) ⌝ }
 {
     let sealed = sealer::append(state, store, logs, seal, phase, bytes);
     pack(sealed)
@@ -53,7 +54,8 @@ pub fn close_packed(state: State, store: &[u8], logs: &[u8], seal: &mut [u8]) ->
 // What a call gives, its answer in one word.
 fn pack(sealed: Sealed) -> Packed
     requires { ⌜ outcomeCount (sealed .outcome) < 2 ^ 32 ⌝ }
-    ensures { λ r. ⌜ (r .code ≡ packed (outcomeRefusal (sealed .outcome)) (outcomeCount (sealed .outcome))) × (r .state ≡ sealed .state) ⌝ }
+    ensures { λ r. ⌜ (r .code ≡ packed (outcomeRefusal (sealed .outcome)) (outcomeCount (sealed .outcome)))
+        × (r .state ≡ sealed .state) ⌝ }
 {
     let outcome = sealed.outcome;
     let state = sealed.state;

@@ -4,7 +4,7 @@ use mathlib.Core.List.{List}
 use Prim.Native.Nat.{ℕ, _+_, _*_, _^_}
 use Rattle.scheme.specs.Sealer.{opens, appends, closes}
 use Rattle.scheme.specs.declared.State.{State}
-use Rattle.pahyndoi.specs.declared.sealing.Packed.{Packed}
+use Rattle.packed.specs.declared.sealing.Packed.{Packed}
 
 -- the 64-bit answer: the refusal times 2 to the 32 plus the number
 abbrev pub packed : ℕ → ℕ → ℕ

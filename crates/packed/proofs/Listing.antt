@@ -17,7 +17,7 @@ use Rattle.scheme.specs.Store.{phases, logCapacity, badStore, badLogs, burnedLa
 use Rattle.scheme.specs.Audit.{Said, audit, materialRules}
 use Rattle.scheme.proofs.Acceptance.Stores.{key-store}
 use Rattle.scheme.proofs.Rules.{any-at}
-use Rattle.pahyndoi.specs.Audited.{words, listed, Counted}
+use Rattle.packed.specs.Audited.{words, listed, Counted}
 
 -- ---- the numbers of bytes
 
@@ -30,13 +30,13 @@ unfolding words
 words-length zero bytes = refl
 words-length (suc n) bytes = ap suc (words-length n (drop 4 bytes))
 
-pub one-more : (n : ℕ) (bytes : List ℕ) → words (suc n) bytes ≡ words n bytes ++ (num (part bytes (4 * n) 4) ∷ [])
+pub one-length-more : (n : ℕ) (bytes : List ℕ) → words (suc n) bytes ≡ words n bytes ++ (num (part bytes (4 * n) 4) ∷ [])
 unfolding words
-one-more zero bytes = refl
-one-more (suc n) bytes =
+one-length-more zero bytes = refl
+one-length-more (suc n) bytes =
     let place : 4 + 4 * n ≡ 4 * suc n = omega arith in
     let next : drop (4 * n) (drop 4 bytes) ≡ drop (4 * suc n) bytes = drop-drop (4 * n) 4 bytes ∙ ap (λ (k : ℕ). drop k bytes) place in
-    ap (λ rest. num (take 4 bytes) ∷ rest) (one-more n (drop 4 bytes) ∙ ap (λ l. words n (drop 4 bytes) ++ (num (take 4 l) ∷ [])) next)
+    ap (λ rest. num (take 4 bytes) ∷ rest) (one-length-more n (drop 4 bytes) ∙ ap (λ l. words n (drop 4 bytes) ++ (num (take 4 l) ∷ [])) next)
 
 -- ---- refusals that look at no length
 

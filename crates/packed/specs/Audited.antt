@@ -8,7 +8,7 @@ use lib.ListN.{length, take, drop}
 use Rattle.scheme.specs.Bytes.{num}
 use Rattle.scheme.specs.Store.{phases}
 use Rattle.scheme.specs.Audit.{audit}
-use Rattle.pahyndoi.specs.Surface.{packed}
+use Rattle.packed.specs.Surface.{packed}
 
 -- the n numbers that bytes give, 4 bytes each
 unfoldable pub words : ℕ → List ℕ → List ℕ

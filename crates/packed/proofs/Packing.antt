@@ -1,4 +1,4 @@
--- Every count fits beneath the refusal's number, and an answer packed from what a call gives is that of the call's effect.
+-- Every refusal's number and every count fits in 32 bits, and an answer packed from what a call gives is that of the call's effect.
 use mathlib.Core.Path.{_≡_, _∙_}
 use mathlib.Core.Bool.{cond}
 use mathlib.Core.List.{List}
@@ -9,15 +9,20 @@ use native.Mathlib.Nat.{mul-le-mul}
 use native.Mathlib.Omega.{arith}
 use borrow.Author.Tests.{eq-eqb, ne-eqb}
 use lib.Dec.{eqb}
-use Rattle.scheme.specs.Answers.{outcomeRefusal, outcomeCount}
+use Rattle.scheme.specs.Answers.{refusalNumber, outcomeRefusal, outcomeCount}
 use Rattle.scheme.specs.Rules.{refusalBy}
 use Rattle.scheme.specs.Sealer.{Effect, Gives, opens, appends, appended, appendRules, closes, closed, closeRules, refused}
 use Rattle.scheme.specs.Store.{ratchet}
+use Rattle.scheme.specs.declared.Refusal.{Refusal}
 use Rattle.scheme.specs.declared.Sealed.{Sealed}
 use Rattle.scheme.specs.declared.State.{State}
-use Rattle.sealer.proofs.Allowed as Allowed
-use Rattle.pahyndoi.specs.Surface.{packed}
-use Rattle.pahyndoi.specs.declared.sealing.Packed.{Packed}
+use Rattle.scheme.proofs.Answers.{number-bounds}
+use Rattle.checks.proofs.Allowed as Allowed
+use Rattle.packed.specs.Surface.{packed}
+use Rattle.packed.specs.declared.sealing.Packed.{Packed}
+
+pub number-fits : (x : Refusal) (r : ℕ) → r ≡ refusalNumber x → r < 2 ^ 32
+number-fits x r e = omega (arith, e, number-bounds x .1)
 
 pub opens-count : (store logs lengths seal : List ℕ) (sealLength : ℕ) → opens store logs lengths seal sealLength .count < 2 ^ 32
 unfolding opens

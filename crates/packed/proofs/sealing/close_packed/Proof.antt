@@ -1,9 +1,9 @@
--- `pahyndoi::sealing::close_packed` meets its contract: it packs the answer that `close` gives, whose count is a number of fillers.
+-- `packed::sealing::close_packed` meets its contract: it packs the answer that `close` gives, whose count is a number of fillers.
 use mathlib.Core.Path.{_∙_}
 use borrow.Author.Needs.{needs}
-use Rattle.pahyndoi.proofs.Packing.{closes-count, count-fits, packed-answer}
-use Rattle.pahyndoi.proofs.sealing.close_packed.Statement.{statement}
-use Rattle.pahyndoi.proofs.sealing.close_packed.Tie as tie
+use Rattle.packed.proofs.Packing.{closes-count, count-fits, packed-answer}
+use Rattle.packed.proofs.sealing.close_packed.Statement.{statement}
+use Rattle.packed.proofs.sealing.close_packed.Tie as tie
 
 close-requires : tie.Need-close-requires
 close-requires c κs = search needs

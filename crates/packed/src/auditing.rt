@@ -3,12 +3,12 @@ ghost use mathlib.Core.Path.{_≡_};
 ghost use Prim.Native.Nat.{_*_, _≤_, _<_, _^_};
 ghost use lib.ListN.{length, take};
 ghost use Rattle.scheme.specs.Answers.{verdictRefusal, verdictNumber};
-ghost use Rattle.pahyndoi.specs.Surface.{packed};
-ghost use Rattle.pahyndoi.specs.Audited.{words, Audited, Counted};
+ghost use Rattle.packed.specs.Surface.{packed};
+ghost use Rattle.packed.specs.Audited.{words, Audited, Counted};
 use crate::answers::code;
-use crate::answers::refusal_number;
 use codec::words::read_u32;
 use scheme::Verdict;
+use scheme::refusal_number;
 
 // The bytes of a length.
 const LENGTH_SIZE: usize = 4;
@@ -18,7 +18,8 @@ const MAX_LENGTHS: usize = 8;
 
 // `audit::audit` of the lengths that the bytes give: what it answers in one word.
 pub fn audit_packed(device: &[u8], auditor: &[u8], logs: &[u8], bytes: &[u8], seal: &[u8]) -> u64
-    ensures { λ r. ⌜ Audited (now (device .entry)) (now (auditor .entry)) (now (logs .entry)) (now (bytes .entry)) (now (seal .entry)) r ⌝ }
+    ensures { λ r. ⌜ Audited
+        (now (device .entry)) (now (auditor .entry)) (now (logs .entry)) (now (bytes .entry)) (now (seal .entry)) r ⌝ }
 {
     let count = count_lengths(bytes.len());
     let lengths = read_lengths(bytes, count);

@@ -1,8 +1,9 @@
--- `pahyndoi::auditing::verdict_code` meets its contract: an accepted verdict has the refusal 0, and both kinds have their number.
+-- `packed::auditing::verdict_code` meets its contract: an accepted verdict has the refusal 0, and both kinds have their number.
 use native.Mathlib.Omega.{arith}
 use borrow.Author.Needs.{needs}
-use Rattle.pahyndoi.proofs.auditing.verdict_code.Statement.{statement}
-use Rattle.pahyndoi.proofs.auditing.verdict_code.Tie as tie
+use Rattle.packed.proofs.Packing.{number-fits}
+use Rattle.packed.proofs.auditing.verdict_code.Statement.{statement}
+use Rattle.packed.proofs.auditing.verdict_code.Tie as tie
 
 enum-known-verdict : tie.Need-enum-known-verdict
 enum-known-verdict c = search needs
@@ -19,7 +20,7 @@ refusal-number-requires c κs = search needs
 code-requires-2 : tie.Need-code-requires-2
 code-requires-2 c κs =
     let small = rw (c .before .before .verdict2 .given .1) at (c .before .before .before .before .pre) in
-    (c .refusal-number .ensures .1, omega (arith, small))
+    (number-fits (c .before .before .verdict2 .given .0 .0) _ (c .refusal-number .ensures), omega (arith, small))
 
 returns : tie.Need-returns
 returns c = rw (c .before .before .verdict .given .1) (c .code .ensures)
@@ -27,7 +28,7 @@ returns c = rw (c .before .before .verdict .given .1) (c .code .ensures)
 returns-2 : tie.Need-returns-2
 returns-2 c =
     rw (c .before .before .before .verdict2 .given .1)
-    (rw (c .before .refusal-number .ensures .0) at (c .code2 .ensures))
+    (rw (c .before .refusal-number .ensures) at (c .code2 .ensures))
 
 pub verdict-code-spec : {M : Type 1} → statement M
 verdict-code-spec =

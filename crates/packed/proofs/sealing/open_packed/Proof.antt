@@ -1,9 +1,9 @@
--- `pahyndoi::sealing::open_packed` meets its contract: it packs the answer that `open` gives, whose count is 0.
+-- `packed::sealing::open_packed` meets its contract: it packs the answer that `open` gives, whose count is 0.
 use mathlib.Core.Path.{_∙_}
 use borrow.Author.Needs.{needs}
-use Rattle.pahyndoi.proofs.Packing.{opens-count, count-fits, packed-answer}
-use Rattle.pahyndoi.proofs.sealing.open_packed.Statement.{statement}
-use Rattle.pahyndoi.proofs.sealing.open_packed.Tie as tie
+use Rattle.packed.proofs.Packing.{opens-count, count-fits, packed-answer}
+use Rattle.packed.proofs.sealing.open_packed.Statement.{statement}
+use Rattle.packed.proofs.sealing.open_packed.Tie as tie
 
 open-requires : tie.Need-open-requires
 open-requires c κs = search needs

@@ -1,4 +1,4 @@
--- `pahyndoi::auditing::read_lengths` meets its contract. The loop's invariant: the first i lengths are the first i numbers of the bytes.
+-- `packed::auditing::read_lengths` meets its contract. The loop's invariant: the first i lengths are the first i numbers of the bytes.
 use mathlib.Core.Path.{_≡_, refl, sym, ap, _∙_}
 use mathlib.Core.List.{List, [], _∷_, _++_}
 use Prim.Native.Nat.{_-_, _≤_}
@@ -7,10 +7,10 @@ use native.Mathlib.Omega.{arith}
 use borrow.Author.Needs.{needs}
 use lib.ListN.{length, take, length-set}
 use lib.Seq.{take-suc-set}
-use Rattle.pahyndoi.specs.Audited.{words}
-use Rattle.pahyndoi.proofs.Listing.{no-words, one-more}
-use Rattle.pahyndoi.proofs.auditing.read_lengths.Statement.{statement}
-use Rattle.pahyndoi.proofs.auditing.read_lengths.Tie as tie
+use Rattle.packed.specs.Audited.{words}
+use Rattle.packed.proofs.Listing.{no-words, one-length-more}
+use Rattle.packed.proofs.auditing.read_lengths.Statement.{statement}
+use Rattle.packed.proofs.auditing.read_lengths.Tie as tie
 
 abbrev Inv-loop : tie.InvT-loop
 Inv-loop bytes count lengths₀ i₀ lengths i = (i ≤ count) × (take i lengths ≡ words i bytes) × (length lengths ≡ 8)
@@ -47,7 +47,7 @@ loop-again c =
     let put = take-suc-set (l .lengths) (l .i) (read .result) (omega arith) in
     let first = ap (λ ls. ls ++ (read .result ∷ [])) (l .inv .1) in
     let last = ap (λ n. words (l .i) bytes ++ (n ∷ [])) (read .ensures) in
-    (search needs, rw add-one (put ∙ first ∙ last ∙ sym (one-more (l .i) bytes)), simp length-set (l .inv .2))
+    (search needs, rw add-one (put ∙ first ∙ last ∙ sym (one-length-more (l .i) bytes)), simp length-set (l .inv .2))
 
 returns : tie.Need-returns Inv-loop μ-loop
 returns c =

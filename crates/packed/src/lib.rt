@@ -1,0 +1,4 @@
+// Open, append, close and the audit with an answer of one word.
+mod answers;
+pub mod auditing;
+pub mod sealing;
