@@ -1,3 +1,2 @@
 -- What the contracts of the audit's functions cite beside the definitions of `scheme`.
-pub mod Material
 pub mod Last

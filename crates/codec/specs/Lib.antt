@@ -1,5 +1,6 @@
 -- What the crate's contracts cite beside the definitions of `scheme`.
 pub mod Header
 pub mod Places
+pub mod Shape
 pub mod Store
 pub mod Reading

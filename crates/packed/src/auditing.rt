@@ -6,15 +6,13 @@ ghost use Rattle.scheme.specs.Answers.{verdictRefusal, verdictNumber};
 ghost use Rattle.packed.specs.Surface.{packed};
 ghost use Rattle.packed.specs.Audited.{words, Audited, Counted};
 use crate::answers::code;
+use codec::layout::MAX_PHASES;
 use codec::words::read_u32;
 use scheme::Verdict;
 use scheme::refusal_number;
 
 // The bytes of a length.
 const LENGTH_SIZE: usize = 4;
-
-// The most lengths that a store's phases ask for.
-const MAX_LENGTHS: usize = 8;
 
 // `audit::audit` of the lengths that the bytes give: what it answers in one word.
 pub fn audit_packed(device: &[u8], auditor: &[u8], logs: &[u8], bytes: &[u8], seal: &[u8]) -> u64
@@ -31,7 +29,7 @@ pub fn audit_packed(device: &[u8], auditor: &[u8], logs: &[u8], bytes: &[u8], se
 fn count_lengths(size: usize) -> usize
     ensures { λ r. ⌜ Counted size r ⌝ }
 {
-    if size > LENGTH_SIZE * MAX_LENGTHS {
+    if size > LENGTH_SIZE * (MAX_PHASES as usize) {
         return 0;
     }
     if size % LENGTH_SIZE != 0 {
