@@ -11,8 +11,8 @@ use crate::layout::MAX_RATCHET;
 use crate::layout::STORE_KIND;
 use crate::layout::TAG_LENGTH;
 use crate::places::chunk_place;
-use crate::words::read_u32;
-use crate::words::wide;
+use bytes::words::read_u32;
+use bytes::words::wide;
 use scheme::Header;
 
 // What reading bytes as a key store finds: the header of a good store, or that the store is bad.

@@ -6,8 +6,8 @@ ghost use Rattle.scheme.specs.Answers.{verdictRefusal, verdictNumber};
 ghost use Rattle.packed.specs.Surface.{packed};
 ghost use Rattle.packed.specs.Audited.{words, Audited, Counted};
 use crate::answers::code;
+use bytes::words::read_u32;
 use codec::layout::MAX_PHASES;
-use codec::words::read_u32;
 use scheme::Verdict;
 use scheme::refusal_number;
 

@@ -1,5 +1,3 @@
--- The laws that the functions' proofs cite, here and in the crates above.
-pub mod Held
-pub mod Fillers
+-- The laws that the functions' proofs cite.
 pub mod Opened
 pub mod Answered

@@ -1,0 +1,3 @@
+// Numbers in bytes, and memory byte by byte.
+pub mod memory;
+pub mod words;
