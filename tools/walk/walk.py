@@ -371,16 +371,17 @@ class Walk:
 
     # ---- the parameters, and what the callee says
 
+    def by_kind(self, written, read, value):
+        """A text for each parameter behind the state: a slice that is written, one that is read, or a value."""
+        return [(written if p.is_mut else read if p.is_slice else value)(p) for p in self.rest]
+
     def types(self):
         yield ["abbrev Arg : Type 0", f"Arg = {product_of(['RefT State'] + [p.antt_type for p in self.rest])}"]
-        stays = ["stay-ref (0 ∷ []) tt (plain (λ _. R))"]
-        for p in self.rest:
-            if p.is_mut:
-                stays.append(f"gave-slice ({p.lifetime} ∷ []) tt {p.plain}")
-            elif p.is_slice:
-                stays.append(f"stay-none-slice ({p.lifetime} ∷ []) tt {p.plain} yes")
-            else:
-                stays.append(f"stay-none (λ _. {p.type}) yes")
+        stays = ["stay-ref (0 ∷ []) tt (plain (λ _. R))"] + self.by_kind(
+            lambda p: f"gave-slice ({p.lifetime} ∷ []) tt {p.plain}",
+            lambda p: f"stay-none-slice ({p.lifetime} ∷ []) tt {p.plain} yes",
+            lambda p: f"stay-none (λ _. {p.type}) yes",
+        )
         yield ["abbrev stayed : Stays (self.ended .signature .params) (self.ended .kept)", f"stayed = {tuple_of(stays)}"]
         yield [
             "-- the contract that the proof cites",
@@ -619,14 +620,11 @@ class Walk:
             "      (λ κs qs bounds a _ are. via 𝓤 _ (fst∗ 𝓤 _ (emp 𝓤))",
             f"      (walk 𝓤 H A W at-mem run{self.walk_arguments()}))",
         ]
-        goes = [f"goes-ref 𝓤 H A W {count} 0 tt (plain (λ _. R))"]
-        for p in self.rest:
-            if p.is_mut:
-                goes.append(f"goes-gave-slice 𝓤 H A W {count} {p.lifetime} tt {p.plain}")
-            elif p.is_slice:
-                goes.append(f"goes-none-slice 𝓤 H A W {count} ({p.lifetime} ∷ []) tt {p.plain} yes")
-            else:
-                goes.append(f"goes-none 𝓤 H A W {count} (λ _. {p.type}) yes (λ κs x f. refl)")
+        goes = [f"goes-ref 𝓤 H A W {count} 0 tt (plain (λ _. R))"] + self.by_kind(
+            lambda p: f"goes-gave-slice 𝓤 H A W {count} {p.lifetime} tt {p.plain}",
+            lambda p: f"goes-none-slice 𝓤 H A W {count} ({p.lifetime} ∷ []) tt {p.plain} yes",
+            lambda p: f"goes-none 𝓤 H A W {count} (λ _. {p.type}) yes (λ κs x f. refl)",
+        )
         yield [
             f"  all-go : AllGo 𝓤 H A W {count} (self.signature .params) (self.ended .kept) stayed",
             f"  all-go = {tuple_of(goes)}",

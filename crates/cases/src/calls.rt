@@ -1,15 +1,15 @@
 // The four calls, each on as much of the memories as the view says, with its line.
 ghost use mathlib.Core.Path.{_≡_};
 ghost use lib.ListN.{length};
-use script::material::View;
-use script::memory::at_most;
-use script::memory::within;
-use script::record::byte;
-use script::record::seal_length;
-use script::record::size;
-use script::record::word;
-use script::report::line;
-use script::report::verdict_line;
+use crate::material::View;
+use crate::memory::at_most;
+use crate::memory::within;
+use crate::record::byte;
+use crate::record::seal_length;
+use crate::record::size;
+use crate::record::word;
+use crate::report::line;
+use crate::report::verdict_line;
 
 // The most lengths that a record lends.
 const MAX_LENGTHS: usize = 9;

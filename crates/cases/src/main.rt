@@ -4,13 +4,14 @@ ghost use mathlib.Core.Path.{_≡_};
 ghost use lib.ListN.{length};
 
 mod calls;
+mod change;
+mod material;
+mod memory;
+mod record;
+mod report;
 
 use libc::STDIN_FILENO;
-use script::change;
-use script::material;
-use script::material::View;
-use script::record;
-use script::report;
+use material::View;
 
 // The bytes of one record of the script.
 const RECORD_LENGTH: usize = 64;
