@@ -4,6 +4,7 @@
 
 mod account;
 mod audit;
+mod bytes;
 mod item;
 mod key;
 mod refusal;
