@@ -3,6 +3,7 @@
 use std::collections::BTreeMap;
 use std::ffi::{OsStr, OsString};
 use std::ops::RangeInclusive;
+use std::os::unix::ffi::OsStrExt;
 use std::path::{Path, PathBuf};
 
 use super::failure::Failure;
@@ -106,16 +107,15 @@ impl Syntax {
 
 /// A flag's name and the value behind its `=`, which need not be UTF-8.
 fn split(argument: &OsStr) -> (&str, Option<&OsStr>) {
-    let bytes = argument.as_encoded_bytes();
+    let bytes = argument.as_bytes();
     let sign = bytes.iter().position(|byte| *byte == b'=');
     let name = &bytes[..sign.unwrap_or(bytes.len())];
-    // SAFETY: the bytes are an OsStr's, split behind an ASCII character.
-    let value = sign.map(|sign| unsafe { OsStr::from_encoded_bytes_unchecked(&bytes[sign + 1..]) });
+    let value = sign.map(|sign| OsStr::from_bytes(&bytes[sign + 1..]));
     (str::from_utf8(name).unwrap_or_default(), value)
 }
 
 fn is_flag(argument: impl AsRef<OsStr>) -> bool {
-    let bytes = argument.as_ref().as_encoded_bytes();
+    let bytes = argument.as_ref().as_bytes();
     bytes.len() > 1 && bytes[0] == b'-'
 }
 

@@ -2,6 +2,7 @@
 
 use std::fs::{self, File, OpenOptions};
 use std::io::{ErrorKind, Read, Write};
+use std::os::unix::fs::OpenOptionsExt;
 use std::path::Path;
 
 use super::failure::Failure;
@@ -42,13 +43,11 @@ fn too_long(path: &Path) -> Failure {
 /// `force` says so, and keeps its mode.
 pub fn write(path: &Path, bytes: &[u8], force: bool) -> Result<(), Failure> {
     let mut options = OpenOptions::new();
-    options.write(true);
+    options.write(true).mode(0o600);
     match force {
         true => options.create(true).truncate(true),
         false => options.create_new(true),
     };
-    #[cfg(unix)]
-    std::os::unix::fs::OpenOptionsExt::mode(&mut options, 0o600);
     let mut file = options
         .open(path)
         .map_err(|error| cannot("write", path, &error))?;

@@ -49,7 +49,6 @@ fn file_in_the_place_of_the_folder() {
 }
 
 /// A link that leads nowhere is there too: no file is written beside it.
-#[cfg(unix)]
 #[test]
 fn existing_links_are_left_alone() {
     let folder = Folder::new("demo/link");

@@ -76,7 +76,6 @@ fn name_with_spaces_stays_as_it_is() {
 }
 
 /// Where files can't grow, as on a full disk, no part of a store stays.
-#[cfg(unix)]
 #[test]
 fn store_that_cannot_be_written_whole_is_removed() {
     use std::process::Command;
@@ -96,7 +95,6 @@ fn store_that_cannot_be_written_whole_is_removed() {
     assert!(!fs::exists(folder.path("auditor.store")).unwrap());
 }
 
-#[cfg(unix)]
 #[test]
 fn store_is_its_owners_alone() {
     use std::os::unix::fs::PermissionsExt;

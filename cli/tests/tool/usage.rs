@@ -75,7 +75,6 @@ fn behind_two_dashes_nothing_is_a_flag() {
     }
 }
 
-#[cfg(unix)]
 #[test]
 fn arguments_need_not_be_utf_8() {
     use std::ffi::OsStr;
