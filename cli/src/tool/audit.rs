@@ -8,11 +8,11 @@ use pahyndoi::Rejected;
 
 use super::Status;
 use super::arguments::{Arguments, Syntax};
-use super::coverage::Coverage;
 use super::evidence::{Evidence, PARTS};
 use super::failure::Failure;
 use super::json::Value;
 use super::picture;
+use super::reading::Reading;
 use super::verdict::Verdict;
 
 const SYNTAX: Syntax = Syntax {
@@ -26,15 +26,15 @@ pub fn run(arguments: &[OsString], out: &mut dyn Write) -> Result<Status, Failur
     let arguments = SYNTAX.read(arguments)?;
     let paths = paths(&arguments)?;
     let evidence = Evidence::read(&paths)?;
-    let verdict = Verdict::of(&evidence.material());
+    let reading = Reading::of(evidence.material());
+    let verdict = Verdict::of(&reading);
     if arguments.has("--json") {
         writeln!(out, "{}", verdict.json(file_names(&paths)))?;
         return Ok(verdict.status());
     }
     out.write_all(verdict.words("").as_bytes())?;
     if !arguments.has("--no-picture") {
-        let coverage = Coverage::read(&evidence.lengths, &evidence.seal);
-        let picture = picture::draw(&coverage, verdict.refused_item());
+        let picture = picture::draw(&reading, verdict.refused_item());
         write!(out, "\n{picture}{}", unchecked(&verdict))?;
     }
     Ok(verdict.status())

@@ -4,26 +4,28 @@
 use pahyndoi::{Material, Rejected};
 
 use super::coverage::Coverage;
-use super::item::{DATA_LIMIT, Item, items, number_at};
+use super::item::{DATA_LIMIT, Item};
+use super::reading::Reading;
 use super::store::{Header, LOG_CAPACITY, burned_at_front, chunks, is_burned};
 use super::text::{counted, grouped};
 
 /// None where there is nothing to add to the rule's own words.
-pub fn detail(material: &Material, rejected: &Rejected) -> Option<String> {
-    let header = match Header::read(material.device_store) {
+pub fn detail(reading: &Reading, rejected: &Rejected) -> Option<String> {
+    let material = &reading.material;
+    let header = match &reading.device {
         Ok(header) => header,
         Err(wrong) => return Some(format!("The device's store {wrong}.")),
     };
     match rejected.refusal.0 {
-        3 => Some(logs_detail(&header, material.logs)),
+        3 => Some(logs_detail(header, material.logs)),
         4 => stray_burned_chunk(material.device_store),
-        5 => Some(lengths_detail(&header, material.lengths)),
-        12 => auditor_detail(material.auditor_store),
-        13 => headers_detail(&header, material.auditor_store),
+        5 => Some(lengths_detail(header, reading)),
+        12 => auditor_detail(reading),
+        13 => headers_detail(header, reading),
         14 => differing_chunk(material),
-        15..=21 => item_detail(&header, material, rejected),
-        22 => Some(missing_detail(&header, material)),
-        23 => gap_detail(material),
+        15..=21 => item_detail(header, reading, rejected),
+        22 => Some(missing_detail(header, reading)),
+        23 => gap_detail(reading),
         _ => None,
     }
 }
@@ -52,30 +54,29 @@ fn stray_burned_chunk(store: &[u8]) -> Option<String> {
     ))
 }
 
-fn lengths_detail(header: &Header, lengths: &[u8]) -> String {
-    if lengths.len() != 4 * usize::from(header.phases) {
-        return size_sentence(lengths, 4, header);
+fn lengths_detail(header: &Header, reading: &Reading) -> String {
+    let bytes = reading.material.lengths;
+    if bytes.len() != 4 * usize::from(header.phases) {
+        return size_sentence(bytes, 4, header);
     }
-    let numbers = lengths.chunks_exact(4).map(|four| number_at(four, 0));
-    let over = numbers
-        .enumerate()
-        .filter(|(_, length)| *length as usize > LOG_CAPACITY);
-    let over: Vec<String> = over
-        .map(|(index, length)| format!("phase {} has {}", index + 1, grouped(length.into())))
+    let lengths = reading.lengths.iter().enumerate();
+    let over: Vec<String> = lengths
+        .filter(|(_, length)| **length as usize > LOG_CAPACITY)
+        .map(|(index, length)| format!("phase {} has {}", index + 1, grouped((*length).into())))
         .collect();
     format!("Too long: {}.", over.join(", "))
 }
 
-fn auditor_detail(store: &[u8]) -> Option<String> {
-    if let Err(wrong) = Header::read(store) {
+fn auditor_detail(reading: &Reading) -> Option<String> {
+    if let Err(wrong) = &reading.auditor {
         return Some(format!("The auditor's store {wrong}."));
     }
-    let burned = chunks(store).position(is_burned)?;
+    let burned = chunks(reading.material.auditor_store).position(is_burned)?;
     Some(format!("Chunk {burned} of the auditor's store is burned."))
 }
 
-fn headers_detail(device: &Header, auditor_store: &[u8]) -> Option<String> {
-    let auditor = Header::read(auditor_store).ok()?;
+fn headers_detail(device: &Header, reading: &Reading) -> Option<String> {
+    let auditor = reading.auditor.as_ref().ok()?;
     let fields = [
         ("id", device.id != auditor.id),
         ("phases", device.phases != auditor.phases),
@@ -95,22 +96,22 @@ fn differing_chunk(material: &Material) -> Option<String> {
     Some(format!("P is {burned}, and chunk {number} differs."))
 }
 
-fn item_detail(header: &Header, material: &Material, rejected: &Rejected) -> Option<String> {
+fn item_detail(header: &Header, reading: &Reading, rejected: &Rejected) -> Option<String> {
     let number = rejected.item? as usize;
-    let item = match items(material.seal_file).nth(number)? {
-        Ok(item) => item,
-        Err(damage) => return Some(format!("Damaged from {damage}.")),
+    let Some(item) = reading.items.get(number) else {
+        let damage = reading.damage?;
+        return Some(format!("Damaged from {damage}."));
     };
     let more = match rejected.refusal.0 {
-        16 => keys_sentence(header, material),
+        16 => keys_sentence(header, &reading.material),
         17 => position_sentence(header, number),
-        18 => area_sentence(header, material, &item).unwrap_or_default(),
-        19 => sharing_sentence(material, &item).unwrap_or_default(),
-        20 => waiting_sentence(material, &item).unwrap_or_default(),
+        18 => area_sentence(header, reading, item).unwrap_or_default(),
+        19 => sharing_sentence(reading, item).unwrap_or_default(),
+        20 => waiting_sentence(reading, item).unwrap_or_default(),
         _ => String::new(),
     };
     Some(
-        format!("{} {more}", item_sentence(&item))
+        format!("{} {more}", item_sentence(item))
             .trim_end()
             .to_string(),
     )
@@ -149,7 +150,7 @@ fn position_sentence(header: &Header, number: usize) -> String {
 }
 
 /// The first part of rule 18 that the item's area meets.
-fn area_sentence(header: &Header, material: &Material, item: &Item) -> Option<String> {
+fn area_sentence(header: &Header, reading: &Reading, item: &Item) -> Option<String> {
     let (area, phases) = (item.area?, header.phases);
     if !(1..=phases).contains(&area.phase) {
         return Some(format!("Phases are 1 to {phases}."));
@@ -158,7 +159,7 @@ fn area_sentence(header: &Header, material: &Material, item: &Item) -> Option<St
         return Some(format!("Data lengths are 1 to {DATA_LIMIT}."));
     };
     let index = usize::from(area.phase - 1);
-    let length = number_at(material.lengths.chunks_exact(4).nth(index)?, 0);
+    let length = *reading.lengths.get(index)?;
     Some(format!(
         "The area ends at {}, and the phase's length is {}.",
         grouped(bytes.end),
@@ -167,9 +168,8 @@ fn area_sentence(header: &Header, material: &Material, item: &Item) -> Option<St
 }
 
 /// How far the item's phase is covered up to the item, and what waits.
-fn waiting_sentence(material: &Material, item: &Item) -> Option<String> {
-    let taken = &material.seal_file[..item.place.end];
-    let coverage = Coverage::read(material.lengths, taken);
+fn waiting_sentence(reading: &Reading, item: &Item) -> Option<String> {
+    let coverage = Coverage::of(&reading.lengths, &reading.items[..=item.number]);
     let index = usize::from(item.area?.phase).checked_sub(1)?;
     let log = coverage.logs.get(index)?;
     let covered = log.covered();
@@ -183,16 +183,15 @@ fn waiting_sentence(material: &Material, item: &Item) -> Option<String> {
 }
 
 /// The first earlier item of the phase that shares a byte.
-fn sharing_sentence(material: &Material, item: &Item) -> Option<String> {
+fn sharing_sentence(reading: &Reading, item: &Item) -> Option<String> {
     let area = item.area?;
     let bytes = area.bytes()?;
-    let earlier = items(material.seal_file).take(item.number).flatten();
-    let mut sharing = earlier.filter(|earlier| {
+    let mut earlier = reading.items[..item.number].iter();
+    let other = earlier.find(|earlier| {
         let theirs = earlier.area.filter(|other| other.phase == area.phase);
         let theirs = theirs.and_then(|other| other.bytes());
         theirs.is_some_and(|theirs| theirs.start < bytes.end && bytes.start < theirs.end)
-    });
-    let other = sharing.next()?;
+    })?;
     let theirs = other.area?;
     Some(format!(
         "Item {} has offset {}, {}.",
@@ -202,15 +201,14 @@ fn sharing_sentence(material: &Material, item: &Item) -> Option<String> {
     ))
 }
 
-fn missing_detail(header: &Header, material: &Material) -> String {
-    let count = items(material.seal_file).flatten().count();
-    let sealed = counted(count, "item");
-    let keys = keys_sentence(header, material);
+fn missing_detail(header: &Header, reading: &Reading) -> String {
+    let sealed = counted(reading.items.len(), "item");
+    let keys = keys_sentence(header, &reading.material);
     format!("The seal file has {sealed}. {keys}")
 }
 
-fn gap_detail(material: &Material) -> Option<String> {
-    let coverage = Coverage::read(material.lengths, material.seal_file);
+fn gap_detail(reading: &Reading) -> Option<String> {
+    let coverage = Coverage::of(&reading.lengths, &reading.items);
     let mut logs = coverage.logs.iter();
     let log = logs.find(|log| log.covered() < log.bytes.len())?;
     Some(format!(
@@ -225,7 +223,7 @@ fn gap_detail(material: &Material) -> Option<String> {
 mod tests {
     use pahyndoi::Refusal;
 
-    use super::super::coverage::tests::{lengths, seal_file};
+    use super::super::reading::tests::{lengths, seal_file};
     use super::*;
 
     const HEADER: Header = Header {
@@ -251,7 +249,7 @@ mod tests {
             refusal: Refusal(rule),
             item: Some(item),
         };
-        detail(&material, &rejected).expect("words")
+        detail(&Reading::of(material), &rejected).expect("words")
     }
 
     #[test]

@@ -15,6 +15,7 @@ mod json;
 pub mod output;
 mod pack;
 mod picture;
+mod reading;
 mod store;
 mod text;
 mod verdict;

@@ -4,6 +4,8 @@ use std::fmt::Write;
 use std::ops::Range;
 
 use super::coverage::{Byte, Coverage, Covered, Log};
+use super::item::Damage;
+use super::reading::Reading;
 use super::text::{counted, grouped, wrapped};
 
 /// The cells of a bar. A full log has 128 bytes for each.
@@ -20,7 +22,8 @@ on a part of it, * bytes that items share, ! the refused item.
 ";
 
 /// Draws all logs, and tells what could not be drawn.
-pub fn draw(coverage: &Coverage, refused: Option<u32>) -> String {
+pub fn draw(reading: &Reading, refused: Option<u32>) -> String {
+    let coverage = Coverage::of(&reading.lengths, &reading.items);
     let mut text = LEGEND.to_string();
     if coverage.logs.is_empty() {
         text += "Nothing can be drawn: no log has a length.\n";
@@ -30,7 +33,7 @@ pub fn draw(coverage: &Coverage, refused: Option<u32>) -> String {
         text += &draw_log(log, refused);
     }
     text.push('\n');
-    text += &remarks(coverage);
+    text += &remarks(&coverage, reading.damage);
     text
 }
 
@@ -130,12 +133,12 @@ fn item_rows(areas: &[Covered], refused: Option<usize>) -> String {
 }
 
 /// The fillers, the entries that are in no log, and the damage.
-fn remarks(coverage: &Coverage) -> String {
+fn remarks(coverage: &Coverage, damage: Option<Damage>) -> String {
     let mut text = format!("Besides these: {}.\n", counted(coverage.fillers, "filler"));
     if !coverage.outside.is_empty() {
         text += &wrapped("", &outside_sentence(&coverage.outside));
     }
-    if let Some(damage) = &coverage.damage {
+    if let Some(damage) = damage {
         text += &wrapped("", &format!("Damaged from {damage}."));
     }
     text
@@ -157,12 +160,12 @@ fn outside_sentence(outside: &[usize]) -> String {
 
 #[cfg(test)]
 mod tests {
-    use super::super::coverage::tests::{lengths, seal_file};
+    use super::super::coverage::tests::coverage;
+    use super::super::reading::tests::{lengths, reading, seal_file};
     use super::*;
 
     fn log_picture(length: u32, areas: &[(u8, u32, u32)], refused: Option<u32>) -> String {
-        let coverage = Coverage::read(&lengths(&[length]), &seal_file(areas));
-        draw_log(&coverage.logs[0], refused)
+        draw_log(&coverage(&[length], areas).logs[0], refused)
     }
 
     #[test]
@@ -263,8 +266,7 @@ Phase 1: 2 items, 4 of 12 bytes covered without a gap
         let areas: Vec<_> = (0..20_000).map(entry).collect();
         let mut seal = seal_file(&areas);
         seal.push(9);
-        let coverage = Coverage::read(&lengths(&[8192; 8]), &seal);
-        let picture = draw(&coverage, Some(19_999));
+        let picture = draw(&reading(&lengths(&[8192; 8]), &seal), Some(19_999));
         assert!(picture.lines().all(|line| line.len() <= 80), "{picture}");
         assert!(picture.contains("Not drawn"), "{picture}");
         assert!(picture.contains("Damaged from item 20000"), "{picture}");
@@ -272,7 +274,7 @@ Phase 1: 2 items, 4 of 12 bytes covered without a gap
 
     #[test]
     fn no_lengths_give_no_bars() {
-        let picture = draw(&Coverage::read(&[1, 2], &seal_file(&[(1, 0, 1)])), None);
+        let picture = draw(&reading(&[1, 2], &seal_file(&[(1, 0, 1)])), None);
         assert!(picture.contains("Nothing can be drawn"), "{picture}");
     }
 }

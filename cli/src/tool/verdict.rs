@@ -1,10 +1,11 @@
 //! The audit's answer, in words and for machines.
 
-use pahyndoi::{Material, Rejected, audit};
+use pahyndoi::{Rejected, audit};
 
 use super::Status;
 use super::detail::detail;
 use super::json::Value;
+use super::reading::Reading;
 use super::text::{counted, wrapped};
 
 pub struct Verdict {
@@ -15,12 +16,12 @@ pub struct Verdict {
 }
 
 impl Verdict {
-    pub fn of(material: &Material) -> Verdict {
-        let answer = audit(material);
+    pub fn of(reading: &Reading) -> Verdict {
+        let answer = audit(&reading.material);
         let rejected = answer.err();
         Verdict {
             answer,
-            detail: rejected.and_then(|rejected| detail(material, &rejected)),
+            detail: rejected.and_then(|rejected| detail(reading, &rejected)),
         }
     }
 

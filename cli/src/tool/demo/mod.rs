@@ -19,6 +19,7 @@ use super::coverage::Coverage;
 use super::evidence::Evidence;
 use super::failure::Failure;
 use super::picture;
+use super::reading::Reading;
 use super::store::LOG_CAPACITY;
 use super::text::{counted, hexadecimal, shown, wrapped};
 use super::verdict::Verdict;
@@ -115,9 +116,9 @@ fn log_lines(evening: &Evidence, out: &mut dyn Write) -> Result<(), Failure> {
 
 fn audit(evening: &Evidence, out: &mut dyn Write) -> Result<(), Failure> {
     writeln!(out, "\n3. The material comes home and is audited\n")?;
-    let verdict = Verdict::of(&evening.material());
-    let coverage = Coverage::read(&evening.lengths, &evening.seal);
-    let picture = picture::draw(&coverage, None);
+    let reading = Reading::of(evening.material());
+    let verdict = Verdict::of(&reading);
+    let picture = picture::draw(&reading, None);
     write!(out, "{}\n{picture}", verdict.words("   "))?;
     Ok(())
 }
@@ -131,7 +132,7 @@ fn intruder(evening: &Evidence, noon: &Evidence, out: &mut dyn Write) -> Result<
     for (letter, act) in ('a'..).zip(&ACTS) {
         let mut altered = evening.clone();
         (act.alter)(&mut altered, noon);
-        let verdict = Verdict::of(&altered.material());
+        let verdict = Verdict::of(&Reading::of(altered.material()));
         writeln!(out, "   {letter}. {}", act.words)?;
         writeln!(out, "{}", verdict.words("      "))?;
     }
@@ -147,7 +148,8 @@ fn gap(evening: &Evidence, noon: &Evidence, out: &mut dyn Write) -> Result<(), F
     )?;
     let mut altered = evening.clone();
     drop_item(&mut altered, noon);
-    let coverage = Coverage::read(&altered.lengths, &altered.seal);
+    let reading = Reading::of(altered.material());
+    let coverage = Coverage::of(&reading.lengths, &reading.items);
     out.write_all(picture::draw_log(&coverage.logs[1], None).as_bytes())?;
     Ok(())
 }
