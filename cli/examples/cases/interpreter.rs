@@ -12,11 +12,12 @@ const LOG_MEMORY_FILL: u8 = 0xee;
 const SEAL_MEMORY_FILL: u8 = 0xdd;
 
 pub fn run(script: &[u8]) -> String {
-    let (records, rest) = script.as_chunks();
+    let records = script.chunks_exact(RECORD_LENGTH);
+    let rest = records.remainder();
     assert!(rest.is_empty(), "the script ends inside a record");
     let mut machine = Machine::new();
     for record in records {
-        machine.step(record);
+        machine.step(record.try_into().expect("64 bytes"));
     }
     machine.output
 }
@@ -39,7 +40,7 @@ impl Record<'_> {
     /// The text from byte 1 to the first zero.
     fn text(&self) -> &str {
         let text = self.0[1..].split(|byte| *byte == 0).next();
-        str::from_utf8(text.expect("a first part")).expect("ASCII")
+        std::str::from_utf8(text.expect("a first part")).expect("ASCII")
     }
 
     /// As many of the nine lengths as byte 1 says.

@@ -23,14 +23,11 @@ const INITIAL_HASH: [u32; 8] = [
 
 /// Section 6.2.
 pub fn sha256(message: &[u8]) -> [u8; DIGEST_LENGTH] {
-    let (blocks, rest) = message.as_chunks();
+    let blocks = message.chunks_exact(BLOCK_LENGTH);
+    let padding = padding(blocks.remainder(), message.len());
     let mut hash = INITIAL_HASH;
-    for block in blocks {
-        compress(&mut hash, block);
-    }
-    let padding = padding(rest, message.len());
-    for block in padding.as_chunks().0 {
-        compress(&mut hash, block);
+    for block in blocks.chain(padding.chunks_exact(BLOCK_LENGTH)) {
+        compress(&mut hash, block.try_into().expect("64 bytes"));
     }
     let mut digest = [0; DIGEST_LENGTH];
     for (bytes, word) in digest.chunks_exact_mut(4).zip(hash) {
@@ -79,8 +76,9 @@ fn compress(hash: &mut [u32; 8], block: &[u8; BLOCK_LENGTH]) {
 /// Section 6.2.2, step 1.
 fn message_schedule(block: &[u8; BLOCK_LENGTH]) -> [u32; 64] {
     let mut w = [0; 64];
-    for (word, bytes) in w.iter_mut().zip(block.as_chunks().0) {
-        *word = u32::from_be_bytes(*bytes);
+    for (t, word) in w.iter_mut().take(16).enumerate() {
+        let bytes = [0, 1, 2, 3].map(|index| block[4 * t + index]);
+        *word = u32::from_be_bytes(bytes);
     }
     for t in 16..64 {
         w[t] = lower_sigma1(w[t - 2])

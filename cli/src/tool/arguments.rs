@@ -111,7 +111,7 @@ fn split(argument: &OsStr) -> (&str, Option<&OsStr>) {
     let sign = bytes.iter().position(|byte| *byte == b'=');
     let name = &bytes[..sign.unwrap_or(bytes.len())];
     let value = sign.map(|sign| OsStr::from_bytes(&bytes[sign + 1..]));
-    (str::from_utf8(name).unwrap_or_default(), value)
+    (std::str::from_utf8(name).unwrap_or_default(), value)
 }
 
 fn is_flag(argument: impl AsRef<OsStr>) -> bool {

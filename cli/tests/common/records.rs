@@ -24,7 +24,7 @@ pub fn records<'text>(text: &'text str, name: &str) -> Vec<Record<'text>> {
 /// The hexadecimal value of this name.
 pub fn bytes(record: &Record, name: &str) -> Vec<u8> {
     let digits = record[name].as_bytes();
-    assert!(digits.len().is_multiple_of(2), "{name} has an odd digit");
+    assert!(digits.len() % 2 == 0, "{name} has an odd digit");
     digits.chunks_exact(2).map(byte).collect()
 }
 
@@ -36,7 +36,7 @@ fn byte(digits: &[u8]) -> u8 {
 /// `Msg`, of `Len` bits: an empty message is written as one byte.
 pub fn message(record: &Record) -> Vec<u8> {
     let bits: usize = record["Len"].parse().expect("Len is a number");
-    assert!(bits.is_multiple_of(8), "Len is whole bytes");
+    assert!(bits % 8 == 0, "Len is whole bytes");
     let mut message = bytes(record, "Msg");
     assert!(
         bits == 0 || message.len() == bits / 8,

@@ -65,7 +65,7 @@ impl Recorded {
     }
 
     fn is_half_way(&self) -> bool {
-        !self.account.items().len().is_multiple_of(self.ratchet)
+        self.account.items().len() % self.ratchet != 0
     }
 
     /// A call that a history may go on with.

@@ -91,12 +91,12 @@ fn alter_position(random: &mut Random, heads: &mut [Head], ratchet: u32) -> bool
             offset,
         },
         3 => Position {
-            chunk: chunk | 1 << random.between(10, 31),
+            chunk: chunk | (1 << random.between(10, 31)),
             offset,
         },
         4 => Position {
             chunk,
-            offset: offset | 1 << random.between(8, 31),
+            offset: offset | (1 << random.between(8, 31)),
         },
         _ => Position {
             chunk: chunk.wrapping_sub(1),

@@ -55,7 +55,7 @@ fn write_by_library(start: &Material, data: &[u8]) -> Material {
         let phase = phase(entry);
         let answer = append_raw(&mut state, &mut store, &mut logs, &mut seal, phase, byte);
         assert_eq!(answer, number(entry));
-        if (entry + 1).is_multiple_of(ENTRIES_IN_A_CHUNK) {
+        if (entry + 1) % ENTRIES_IN_A_CHUNK == 0 {
             let answer = close_raw(&mut state, &store, &logs, &mut seal);
             assert_eq!(answer, (RATCHET - ENTRIES_IN_A_CHUNK) as u64);
         }
@@ -77,7 +77,7 @@ fn write_by_model(start: &Material, data: &[u8]) -> Material {
     let mut state = State::default();
     for (entry, byte) in data.chunks(1).enumerate() {
         model::append(plain_hmac, &mut material, &mut state, phase(entry), byte);
-        if (entry + 1).is_multiple_of(ENTRIES_IN_A_CHUNK) {
+        if (entry + 1) % ENTRIES_IN_A_CHUNK == 0 {
             model::close(plain_hmac, &mut material, &mut state);
         }
     }

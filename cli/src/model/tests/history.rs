@@ -68,7 +68,7 @@ fn assert_audit_of_untouched(start: &Material, account: &Account, ratchet: u32) 
         seal_file: &account.seal_file(),
     };
     let item_count = account.items().len() as u32;
-    let expected = match item_count.is_multiple_of(ratchet) {
+    let expected = match item_count % ratchet == 0 {
         true => Answer::done(item_count),
         false => Answer::refused(22),
     };
