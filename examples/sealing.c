@@ -4,6 +4,7 @@
 #include <string.h>
 
 #include "pahyndoi.h"
+#include "wipe_stack.h"
 
 enum { PHASES = 2, CHUNKS = 2, RATCHET = 3 };
 
@@ -38,10 +39,45 @@ static void make_store(void)
         store[i] = (uint8_t)i;
 }
 
-static uint64_t append(pahyndoi_state *state, uint8_t phase, const char *text)
+/* The sealing calls, each in a function of its own, as wipe_stack.h asks. */
+static NEVER_INLINED uint64_t call_open(pahyndoi_state *state)
+{
+    const uint32_t lengths[PHASES] = {0, 0};
+    return pahyndoi_open(state, store, sizeof store, logs, sizeof logs, lengths, PHASES,
+                         seal, sizeof seal, 0);
+}
+
+static NEVER_INLINED uint64_t call_append(pahyndoi_state *state, uint8_t phase, const char *text)
 {
     return pahyndoi_append(state, store, sizeof store, logs, sizeof logs, seal, sizeof seal,
                            phase, (const uint8_t *)text, strlen(text));
+}
+
+static NEVER_INLINED uint64_t call_close(pahyndoi_state *state)
+{
+    return pahyndoi_close(state, store, sizeof store, logs, sizeof logs, seal, sizeof seal);
+}
+
+/* And each followed by the wipe: the keys that the call used must be gone. */
+static uint64_t open_store(pahyndoi_state *state)
+{
+    uint64_t answer = call_open(state);
+    wipe_stack();
+    return answer;
+}
+
+static uint64_t append(pahyndoi_state *state, uint8_t phase, const char *text)
+{
+    uint64_t answer = call_append(state, phase, text);
+    wipe_stack();
+    return answer;
+}
+
+static uint64_t close_store(pahyndoi_state *state)
+{
+    uint64_t answer = call_close(state);
+    wipe_stack();
+    return answer;
 }
 
 /* The audit of the memories as they stand, with the lengths that the state holds, 4 bytes each. */
@@ -69,22 +105,19 @@ static void hash_known(void)
 
 int main(void)
 {
-    const uint32_t lengths[PHASES] = {0, 0};
     pahyndoi_state state;
 
     hash_known();
     make_store();
     memcpy(auditor, store, sizeof store);
 
-    print_answer("open", pahyndoi_open(&state, store, sizeof store, logs, sizeof logs,
-                                       lengths, PHASES, seal, sizeof seal, 0));
+    print_answer("open", open_store(&state));
     print_answer("append", append(&state, 1, "door opened"));
     print_answer("append", append(&state, 2, "fan at 40 %"));
     print_answer("append", append(&state, 1, "door shut"));
     print_answer("append", append(&state, 2, "fan off"));
     print_answer("append to phase 3", append(&state, 3, "nowhere"));
-    print_answer("close", pahyndoi_close(&state, store, sizeof store, logs, sizeof logs,
-                                         seal, sizeof seal));
+    print_answer("close", close_store(&state));
     print_answer("audit", audit(&state));
 
     /* "door shut" stands behind the 11 bytes of "door opened". */

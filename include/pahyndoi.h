@@ -238,6 +238,47 @@ uint64_t pahyndoi_audit(const uint8_t *device, size_t device_size,
                         const uint8_t *lengths, size_t lengths_size,
                         const uint8_t *seal, size_t seal_size);
 
+/* ---- Stack and registers ---- */
+
+/*
+ * The proofs speak of what a call answers and of what it is lent. Dead stack,
+ * which a call has used below its caller's frame, and registers are outside
+ * every proof. No call clears them. Until other code overwrites them, they may
+ * hold, whole or in pieces, after
+ *
+ *   open                   no key of its own; what earlier calls left stays;
+ *   append                 the key that sealed the item (at offset 0 the chunk
+ *                          that it burned), and the key that the state holds;
+ *   close                  the keys that sealed the fillers;
+ *   append, close refused  the key that the state holds;
+ *   audit                  the auditor's keys of the items that it came to, and
+ *                          the key due after them;
+ *   hmac_sha256            the key, or its digest if it is over 64 bytes, and
+ *                          what sha256 leaves;
+ *   sha256                 the end of the message, and hash values on the way.
+ *
+ * A key may stand there as it is, masked with a pad of HMAC (0x36 or 0x5c), or
+ * as the hash values after its two masked blocks. These two are as good as the
+ * key: whoever has them makes its tags, and the next key of the chunk.
+ *
+ * The scheme lives on keys that are gone: overwrite the dead stack after each
+ * open, append and close, refused or not. examples/wipe_stack.h does so.
+ */
+
+/*
+ * The stack that a call uses at most, in bytes below the caller's frame, with
+ * arguments and return address: open, append and close; audit; sha256 and
+ * hmac_sha256. Measured and read off the machine code for the archive as
+ * rt staticlib builds it for x86-64, with some 600 bytes to spare for memcpy
+ * and memset; not proved. Running out of stack is outside the proofs as well.
+ *
+ * Link memcpy and memset statically or with -z now. A dynamic linker that
+ * looks them up at their first call saves registers kilobytes deeper.
+ */
+#define PAHYNDOI_SEALING_STACK 3072
+#define PAHYNDOI_AUDIT_STACK 6144
+#define PAHYNDOI_HASH_STACK 2048
+
 #ifdef __cplusplus
 }
 #endif
