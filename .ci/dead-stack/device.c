@@ -1,0 +1,125 @@
+#include "device.h"
+
+#include <string.h>
+
+enum { STORE_KIND = 1, ENTRY_KIND = 2, RATCHET_KIND = 4, HEAD_SIZE = 18 };
+
+struct secret secrets[KEYS_MOST];
+size_t keys_count;
+
+uint8_t store[PAHYNDOI_HEADER_SIZE + CHUNKS * PAHYNDOI_CHUNK_SIZE];
+uint8_t auditor[sizeof store];
+uint8_t logs[PHASES * PAHYNDOI_LOG_SIZE];
+uint8_t seal[KEYS_MOST * PAHYNDOI_ENTRY_SIZE];
+size_t store_size, logs_size, seal_size, lengths_count;
+pahyndoi_state state;
+
+uint8_t phase;
+size_t data_size, key_size, message_size;
+uint64_t answer;
+close_call *close_function = pahyndoi_close;
+
+static uint8_t zeros[PAHYNDOI_LENGTH_LIMIT + 1];
+static uint8_t result[32];
+
+static void put_number(uint8_t *bytes, uint32_t number)
+{
+    for (size_t i = 0; i < 4; i++)
+        bytes[i] = (uint8_t)(number >> (8 * i));
+}
+
+/* The keys of each chunk: the chunk, then each the HMAC of the ratchet message under the one
+   before. */
+static void make_keys(uint32_t ratchet)
+{
+    uint8_t key[KEY_SIZE];
+    keys_count = CHUNKS * ratchet;
+    for (uint32_t k = 0; k < keys_count; k++) {
+        if (k % ratchet == 0) {
+            memcpy(key, auditor + PAHYNDOI_HEADER_SIZE + k / ratchet * KEY_SIZE, KEY_SIZE);
+        } else {
+            uint8_t message[9] = {RATCHET_KIND};
+            put_number(message + 1, k % ratchet);
+            put_number(message + 5, ratchet);
+            tag_by_values(key, &secrets[k - 1], message, sizeof message);
+        }
+        make_secret(&secrets[k], key);
+    }
+}
+
+void unused_device(uint32_t ratchet)
+{
+    memset(store, 0, sizeof store);
+    store[0] = STORE_KIND;
+    store[9] = PHASES;
+    put_number(store + 10, CHUNKS);
+    put_number(store + 14, ratchet);
+    for (uint8_t c = 0; c < CHUNKS; c++)
+        pahyndoi_sha256(&c, 1, store + PAHYNDOI_HEADER_SIZE + c * PAHYNDOI_CHUNK_SIZE);
+    memcpy(auditor, store, sizeof store);
+    make_keys(ratchet);
+    memset(&state, 0, sizeof state);
+    store_size = sizeof store;
+    logs_size = sizeof logs;
+    seal_size = sizeof seal;
+    lengths_count = PHASES;
+    phase = 1;
+    data_size = 1;
+}
+
+void open_job(void)
+{
+    static uint32_t lengths[8];
+    memcpy(lengths, state.lengths, sizeof lengths);
+    answer = pahyndoi_open(&state, store, store_size, logs, logs_size, lengths, lengths_count,
+                           seal, seal_size, state.seal_length);
+}
+
+void append_job(void)
+{
+    answer = pahyndoi_append(&state, store, store_size, logs, logs_size, seal, seal_size, phase,
+                             zeros, data_size);
+}
+
+void close_job(void)
+{
+    answer = close_function(&state, store, store_size, logs, logs_size, seal, seal_size);
+}
+
+void audit_job(void)
+{
+    static uint8_t lengths[4 * PHASES];
+    for (size_t i = 0; i < PHASES; i++)
+        put_number(lengths + 4 * i, state.lengths[i]);
+    answer = pahyndoi_audit(store, store_size, auditor, sizeof auditor, logs, logs_size, lengths,
+                            4 * lengths_count, seal, (size_t)state.seal_length);
+}
+
+void sha256_job(void)
+{
+    answer = (uint64_t)pahyndoi_sha256(zeros, message_size, result) << 32;
+}
+
+void hmac_job(void)
+{
+    answer = (uint64_t)pahyndoi_hmac_sha256(zeros, key_size, zeros, message_size, result) << 32;
+}
+
+void craft_entry(uint8_t of_phase, uint32_t from, uint32_t size)
+{
+    uint8_t *item = seal + state.seal_length;
+    uint32_t ratchet = (uint32_t)keys_count / CHUNKS;
+    uint32_t number = (uint32_t)(state.seal_length / PAHYNDOI_ENTRY_SIZE);
+    uint8_t message[HEAD_SIZE + 512];
+    memset(store + PAHYNDOI_HEADER_SIZE + number / ratchet * KEY_SIZE, 0, KEY_SIZE);
+    item[0] = ENTRY_KIND;
+    item[1] = of_phase;
+    put_number(item + 2, from);
+    put_number(item + 6, size);
+    put_number(item + 10, number / ratchet);
+    put_number(item + 14, number % ratchet);
+    memcpy(message, item, HEAD_SIZE);
+    memcpy(message + HEAD_SIZE, logs + (of_phase - 1) * PAHYNDOI_LOG_SIZE + from, size);
+    tag_by_values(item + HEAD_SIZE, &secrets[number], message, HEAD_SIZE + size);
+    state.seal_length += PAHYNDOI_ENTRY_SIZE;
+}

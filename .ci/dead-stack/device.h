@@ -1,0 +1,54 @@
+/* A device and its auditor. Their memories lie outside the painted stack: store and state hold keys
+   by right. Each call is a job without arguments, for the painted stack; what it is handed stands
+   in the variables here. */
+
+#ifndef DEVICE_H
+#define DEVICE_H
+
+#include <stddef.h>
+#include <stdint.h>
+
+#include "pahyndoi.h"
+#include "secrets.h"
+
+enum { PHASES = 8, CHUNKS = 3, RATCHET_MOST = 256, KEYS_MOST = CHUNKS * RATCHET_MOST };
+
+/* Device and auditor share an unused store of three chunks with so many keys each; logs and seal
+   file are empty. */
+void unused_device(uint32_t ratchet);
+
+/* The forms of the keys of the store, by item number, and how many there are. */
+extern struct secret secrets[KEYS_MOST];
+extern size_t keys_count;
+
+/* What is lent. A test may shorten, damage or overfill it. */
+extern uint8_t store[PAHYNDOI_HEADER_SIZE + CHUNKS * PAHYNDOI_CHUNK_SIZE];
+extern uint8_t auditor[sizeof store];
+extern uint8_t logs[PHASES * PAHYNDOI_LOG_SIZE];
+extern uint8_t seal[KEYS_MOST * PAHYNDOI_ENTRY_SIZE];
+extern size_t store_size, logs_size, seal_size, lengths_count;
+extern pahyndoi_state state;
+
+/* What append is handed besides, and what sha256 and hmac are: the bytes are zeros. */
+extern uint8_t phase;
+extern size_t data_size, key_size, message_size;
+
+/* What the last call answered; of sha256 and hmac the refusal, in its place. */
+extern uint64_t answer;
+
+void open_job(void);
+void append_job(void);
+void close_job(void);
+void audit_job(void);
+void sha256_job(void);
+void hmac_job(void);
+
+/* What close_job calls: pahyndoi_close, or another function in its place. */
+typedef uint64_t close_call(pahyndoi_state *, const uint8_t *, size_t, const uint8_t *, size_t,
+                            uint8_t *, size_t);
+extern close_call *close_function;
+
+/* An entry item behind the seal file for the key due, made without the archive. */
+void craft_entry(uint8_t of_phase, uint32_t from, uint32_t size);
+
+#endif

@@ -1,0 +1,167 @@
+#include "checks.h"
+
+#include <stdio.h>
+#include <string.h>
+
+#include "device.h"
+#include "painted.h"
+
+struct call {
+    const char *name;
+    void (*job)(void);
+    size_t figure;
+    size_t deepest;
+};
+
+static struct call opening = {"open", open_job, PAHYNDOI_SEALING_STACK, 0};
+static struct call appending = {"append", append_job, PAHYNDOI_SEALING_STACK, 0};
+static struct call closing = {"close", close_job, PAHYNDOI_SEALING_STACK, 0};
+static struct call auditing = {"audit", audit_job, PAHYNDOI_AUDIT_STACK, 0};
+static struct call hashing = {"sha256", sha256_job, PAHYNDOI_HASH_STACK, 0};
+static struct call tagging = {"hmac_sha256", hmac_job, PAHYNDOI_HASH_STACK, 0};
+
+/* The call as the device stands, which must give this refusal and keep to its figure. */
+static void measure(struct call *call, uint32_t refusal)
+{
+    paint(PAINT);
+    run(call->job, 0);
+    if (PAHYNDOI_REFUSAL(answer) != refusal)
+        fail("%s gave refusal %u, not %u", call->name, (unsigned)PAHYNDOI_REFUSAL(answer),
+             (unsigned)refusal);
+    if (depth() > call->figure)
+        fail("%s went %zu bytes deep, its figure in pahyndoi.h is %zu", call->name, depth(),
+             call->figure);
+    if (depth() > call->deepest)
+        call->deepest = depth();
+}
+
+static void measure_open(void)
+{
+    unused_device(4);
+    measure(&opening, 0);
+    memset(store + PAHYNDOI_HEADER_SIZE, 0, PAHYNDOI_CHUNK_SIZE);
+    measure(&opening, 0);
+    memset(store + PAHYNDOI_HEADER_SIZE + 2 * PAHYNDOI_CHUNK_SIZE, 0, PAHYNDOI_CHUNK_SIZE);
+    measure(&opening, PAHYNDOI_BURNED_AFTER_UNBURNED);
+    logs_size = 0;
+    measure(&opening, PAHYNDOI_BAD_LOGS);
+    store_size = 0;
+    measure(&opening, PAHYNDOI_BAD_STORE);
+    unused_device(4);
+    lengths_count = PHASES - 1;
+    measure(&opening, PAHYNDOI_BAD_LENGTHS);
+    unused_device(4);
+    state.seal_length = sizeof seal + 1;
+    measure(&opening, PAHYNDOI_STATE_UNFIT);
+}
+
+/* Data that end before, at and behind the ends of the hash's blocks, under chunks and held keys. */
+static void measure_append(void)
+{
+    static const size_t sizes[] = {1, 36, 37, 38, 45, 46, 47, 64, 101, 110, 111, 512};
+    unused_device(4);
+    for (size_t i = 0; i < sizeof sizes / sizeof sizes[0]; i++) {
+        data_size = sizes[i];
+        measure(&appending, 0);
+    }
+    measure(&appending, PAHYNDOI_KEYS_SPENT);
+    seal_size = (size_t)state.seal_length;
+    measure(&appending, PAHYNDOI_SEAL_FULL);
+    state.lengths[0] = PAHYNDOI_LOG_SIZE;
+    measure(&appending, PAHYNDOI_LOG_FULL);
+    data_size = 513;
+    measure(&appending, PAHYNDOI_BAD_DATA_LENGTH);
+    phase = 0;
+    measure(&appending, PAHYNDOI_NO_SUCH_PHASE);
+    state.chunk = CHUNKS + 1;
+    measure(&appending, PAHYNDOI_STATE_UNFIT);
+    logs_size = 0;
+    measure(&appending, PAHYNDOI_BAD_LOGS);
+    store_size = 0;
+    measure(&appending, PAHYNDOI_BAD_STORE);
+}
+
+static void measure_close(void)
+{
+    unused_device(RATCHET_MOST);
+    measure(&closing, 0);
+    append_job();
+    measure(&closing, 0);
+    if (PAHYNDOI_NUMBER(answer) != RATCHET_MOST - 1)
+        fail("close wrote %u fillers", (unsigned)PAHYNDOI_NUMBER(answer));
+    append_job();
+    seal_size = (size_t)state.seal_length;
+    measure(&closing, PAHYNDOI_SEAL_FULL);
+    state.chunk = CHUNKS + 1;
+    measure(&closing, PAHYNDOI_STATE_UNFIT);
+    logs_size = 0;
+    measure(&closing, PAHYNDOI_BAD_LOGS);
+    store_size = 0;
+    measure(&closing, PAHYNDOI_BAD_STORE);
+}
+
+/* In every phase so many areas of one byte wait; those at 0 come last and cover them all. */
+static void craft_waiting(uint32_t waiting)
+{
+    unused_device(PHASES * (waiting + 1));
+    for (uint32_t from = waiting; from + 1 > 0; from--)
+        for (uint8_t p = 1; p <= PHASES; p++)
+            craft_entry(p, from, 1);
+    for (size_t p = 0; p < PHASES; p++)
+        state.lengths[p] = waiting + 1;
+}
+
+static void measure_audit(void)
+{
+    unused_device(4);
+    measure(&auditing, 0);
+    craft_waiting(16);
+    measure(&auditing, 0);
+    if (PAHYNDOI_NUMBER(answer) != PHASES * 17)
+        fail("the audit counted %u items", (unsigned)PAHYNDOI_NUMBER(answer));
+    state.lengths[PHASES - 1]++;
+    measure(&auditing, PAHYNDOI_NOT_COVERED);
+    seal[state.seal_length - 1] ^= 1;
+    measure(&auditing, PAHYNDOI_WRONG_TAG);
+    state.seal_length -= PAHYNDOI_ENTRY_SIZE;
+    measure(&auditing, PAHYNDOI_ITEMS_MISSING);
+    craft_waiting(17);
+    measure(&auditing, PAHYNDOI_TOO_MANY_WAITING);
+    craft_waiting(1);
+    craft_entry(1, 0, 512);
+    state.lengths[0] = 512;
+    measure(&auditing, PAHYNDOI_AREA_SHARED);
+    auditor[PAHYNDOI_HEADER_SIZE + 2 * PAHYNDOI_CHUNK_SIZE] ^= 1;
+    measure(&auditing, PAHYNDOI_CHUNK_DIFFERS);
+    auditor[0] = 0;
+    measure(&auditing, PAHYNDOI_BAD_AUDITOR_STORE);
+}
+
+static void measure_hashes(void)
+{
+    static const size_t sizes[] = {0, 55, 56, 63, 64, 65, 119, 120, 128, PAHYNDOI_LENGTH_LIMIT};
+    const size_t count = sizeof sizes / sizeof sizes[0];
+    for (size_t i = 0; i < count; i++) {
+        message_size = sizes[i];
+        measure(&hashing, 0);
+        for (size_t j = 0; j < count; j++) {
+            key_size = sizes[j];
+            measure(&tagging, 0);
+        }
+    }
+    message_size = PAHYNDOI_LENGTH_LIMIT + 1;
+    measure(&hashing, PAHYNDOI_TOO_LONG);
+    measure(&tagging, PAHYNDOI_TOO_LONG);
+}
+
+void check_figures(void)
+{
+    const struct call *calls[] = {&opening, &appending, &closing, &auditing, &hashing, &tagging};
+    measure_open();
+    measure_append();
+    measure_close();
+    measure_audit();
+    measure_hashes();
+    for (size_t i = 0; listing && i < sizeof calls / sizeof calls[0]; i++)
+        printf("%s: %zu bytes deep\n", calls[i]->name, calls[i]->deepest);
+}
