@@ -73,7 +73,8 @@ uint32_t pahyndoi_hmac_sha256(const uint8_t *key, size_t key_length,
 /*
  * The sizes, in bytes. A key store is a header and its chunks. The log memory
  * is a log for each phase, that of phase p from byte 8,192 * (p - 1) on. A
- * seal file is entry and filler items, one behind the other.
+ * seal file is entry and filler items, one behind the other. docs/FORMAT.md, 2
+ * to 4, gives their layouts.
  */
 #define PAHYNDOI_HEADER_SIZE 18
 #define PAHYNDOI_CHUNK_SIZE 32
@@ -91,68 +92,85 @@ uint32_t pahyndoi_hmac_sha256(const uint8_t *key, size_t key_length,
 
 /*
  * The refusals, in checking order: of those that a call checks, the first that
- * holds is the answer. P is the number of burned chunks (all bytes zero) at
- * the front of the device store, N the ratchet, the keys of a chunk.
+ * holds is the answer. A chunk is burned if all its bytes are zero; P says how
+ * many chunks at the front of the device store are burned, N is the ratchet,
+ * the number of keys of a chunk. When a state fits stands at pahyndoi_state;
+ * docs/FORMAT.md, 8 and 9, has the exact conditions, and what waiting and
+ * covered mean.
  */
 enum pahyndoi_refusal {
-    /* A message or a key to be hashed is over 1,048,576 bytes. */
+    /* A message or a key handed to the hash has more than 1,048,576 bytes. */
     PAHYNDOI_TOO_LONG = 1,
-    /* The store is under 18 bytes, has another kind, has a count outside its
-       range or has the wrong length. */
+    /* The store lacks a whole header of kind 1, has phases, chunk count or
+       ratchet out of range, or is not as long as its header says. */
     PAHYNDOI_BAD_STORE = 2,
-    /* The log memory has the wrong length. */
+    /* The log memory is not 8,192 bytes for each phase. */
     PAHYNDOI_BAD_LOGS = 3,
-    /* A burned chunk stands after one that is not burned. */
+    /* A chunk is burned although an earlier one is not. */
     PAHYNDOI_BURNED_AFTER_UNBURNED = 4,
-    /* The list of lengths has another number of entries than the phases, or
-       one over 8,192. */
+    /* The lengths are not one for each phase, or one is above 8,192. */
     PAHYNDOI_BAD_LENGTHS = 5,
-    /* The state does not fit, or at opening the seal length exceeds the seal
-       memory. */
+    /* Open is given a seal length beyond the seal memory, or append or close a
+       state that does not fit. */
     PAHYNDOI_STATE_UNFIT = 6,
-    /* The phase is 0 or above the phases. */
+    /* The phase is not one of the store's. */
     PAHYNDOI_NO_SUCH_PHASE = 7,
-    /* The data length is 0 or above 512. */
+    /* The data are empty or longer than 512 bytes. */
     PAHYNDOI_BAD_DATA_LENGTH = 8,
-    /* The phase's log has fewer bytes free than the data. */
+    /* The phase's log has no room for the data. */
     PAHYNDOI_LOG_FULL = 9,
-    /* The seal memory has fewer bytes free than the items to be written. */
+    /* The seal memory has no room for the items to be written. */
     PAHYNDOI_SEAL_FULL = 10,
-    /* The offset is 0 and the chunk number equals the chunk count. */
+    /* The keys of all chunks are spent. */
     PAHYNDOI_KEYS_SPENT = 11,
-    /* The auditor's store meets 2 or has a burned chunk. */
+    /* The auditor's store is malformed (rule 2) or has a burned chunk. */
     PAHYNDOI_BAD_AUDITOR_STORE = 12,
-    /* The two headers differ. */
+    /* The headers of the two stores differ. */
     PAHYNDOI_HEADERS_DIFFER = 13,
-    /* A chunk from number P on differs. */
+    /* Behind the P burned chunks, a chunk differs between the two stores. */
     PAHYNDOI_CHUNK_DIFFERS = 14,
-    /* The item's kind is neither entry nor filler, or the bytes end inside
-       it. */
+    /* The item is no entry and no filler, or the seal file ends before the
+       item does. */
     PAHYNDOI_BAD_ITEM = 15,
-    /* The item's number is P times N or more. */
+    /* The item's number is not below P times N (P burned chunks, N keys from
+       each). */
     PAHYNDOI_ITEM_NOT_DUE = 16,
-    /* Its chunk number or ratchet offset is not that of its number. */
+    /* The item has another chunk number or ratchet offset than its number
+       gives. */
     PAHYNDOI_WRONG_PLACE = 17,
-    /* Its phase or data length is out of range, or its area ends beyond that
-       phase's length. */
+    /* The entry names no phase of the store, has a data length outside 1 to
+       512, or reaches past its phase's length. */
     PAHYNDOI_BAD_AREA = 18,
-    /* Its area shares a byte with an earlier item of the phase. */
+    /* The entry's area overlaps that of an earlier entry of its phase. */
     PAHYNDOI_AREA_SHARED = 19,
-    /* After taking it, over 16 items of that phase wait. */
+    /* After this entry more than 16 entries of its phase wait. */
     PAHYNDOI_TOO_MANY_WAITING = 20,
-    /* Its tag is not the HMAC of its message under its key. */
+    /* The item's tag is not the one that its key gives for its message. */
     PAHYNDOI_WRONG_TAG = 21,
-    /* After the last item there are fewer than P times N. */
+    /* There are fewer than P times N items (P burned chunks, N keys from
+       each). */
     PAHYNDOI_ITEMS_MISSING = 22,
-    /* A phase's covered bytes are fewer than its length. */
+    /* Some phase's log is not covered up to its length. */
     PAHYNDOI_NOT_COVERED = 23
 };
 
 /*
- * The sealing state: the next chunk number, the next ratchet offset, the held
- * key, a log length for each phase, and the bytes used of the seal memory. The
- * caller keeps it and lends it to each call; set it to zeros before its first
- * use, or have open fill it. Where the offset is above 0 it holds a secret key.
+ * The sealing state: chunk and offset say which key is next, key is that key
+ * if offset is above 0, lengths has a log length for each phase, and
+ * seal_length is how much of the seal memory is used. The caller keeps it and
+ * lends it to each call; set it to zeros before its first use, or have open
+ * fill it. Above offset 0 it holds a secret key.
+ *
+ * A state fits a store and a seal memory if all of this holds:
+ *  - offset is below N;
+ *  - at offset 0: chunk is the chunk count, or it is less and that chunk is
+ *    not burned;
+ *  - above offset 0: chunk is less than the chunk count, and that chunk is
+ *    burned;
+ *  - no length is above 8,192, and those of phases that the store does not
+ *    have are 0;
+ *  - seal_length is at most the size of the seal memory.
+ * Any key fits.
  */
 struct pahyndoi_state {
     uint32_t chunk;
@@ -164,9 +182,10 @@ struct pahyndoi_state {
 typedef struct pahyndoi_state pahyndoi_state;
 
 /*
- * Opens a key store: the state becomes the number of burned chunks at the
- * front, offset 0, a key of zeros, the given lengths (zeros beyond the phases)
- * and the given seal length, whatever it was before. The number answered is 0.
+ * Opens a key store. Whatever the state was before, its chunk becomes the
+ * first that is not burned (the chunk count if all are), its offset 0 and its
+ * key zeros; lengths and seal_length are those given, with zeros behind the
+ * last phase's length. The number answered is 0.
  *
  * Refused in this order: 2, 3, 4, 5, 6 (of 6, a seal length above seal_size
  * alone). A refused open leaves a state of zeros.
@@ -187,7 +206,8 @@ uint64_t pahyndoi_open(pahyndoi_state *state,
  * Copies the data behind the log of the phase (1 is the first), writes one
  * entry item of 50 bytes behind the seal file, sets the chunk in the store to
  * zeros if the offset was 0, and brings the state up to date. The number
- * answered is the item's, counted from 0.
+ * answered is chunk times N plus offset as the state had them: that of the
+ * item, counted from 0, where the calls are a history (docs/FORMAT.md, 10).
  *
  * Refused in this order: 2, 3, 6, 7, 8, 9, 10, 11. A refused append alters
  * neither state nor store, logs or seal, and answers the number 0.

@@ -7,32 +7,35 @@ use std::fmt;
 #[derive(Clone, Copy, Debug, PartialEq, Eq)]
 pub struct Refusal(pub u32);
 
-/// What each rule says, from number 1 on, in checking order.
+/// What each rule says, from number 1 on, in checking order: the words of
+/// `docs/FORMAT.md`, 9.
 const MEANINGS: [&str; 23] = [
-    "a message or a key to be hashed is over 1,048,576 bytes",
-    "the store is under 18 bytes, has another kind, has a count outside its range or has the \
-     wrong length",
-    "the log memory has the wrong length",
-    "a burned chunk stands after one that is not burned",
-    "the list of lengths has another number of entries than the phases, or one over 8,192",
-    "the state does not fit, or at opening the seal length exceeds the seal memory",
-    "the phase is 0 or above the phases",
-    "the data length is 0 or above 512",
-    "the phase's log has fewer bytes free than the data",
-    "the seal memory has fewer bytes free than the items to be written",
-    "the keys are spent: the offset is 0 and the chunk number equals the chunk count",
+    "a message or a key handed to the hash has more than 1,048,576 bytes",
+    "the store lacks a whole header of kind 1, has phases, chunk count or ratchet out of \
+     range, or is not as long as its header says",
+    "the log memory is not 8,192 bytes for each phase",
+    "a chunk is burned although an earlier one is not",
+    "the lengths are not one for each phase, or one is above 8,192",
+    "open is given a seal length beyond the seal memory, or append or close a state that does \
+     not fit",
+    "the phase is not one of the store's",
+    "the data are empty or longer than 512 bytes",
+    "the phase's log has no room for the data",
+    "the seal memory has no room for the items to be written",
+    "the keys of all chunks are spent",
     "the auditor's store is malformed (rule 2) or has a burned chunk",
     "the headers of the two stores differ",
-    "a chunk from number P on differs between the two stores (P burned chunks)",
-    "the item's kind is neither 2 nor 3, or the bytes end inside it",
-    "the item's number is P x N or more (P burned chunks, N keys from each)",
-    "the item's chunk number or ratchet offset is not that of its number",
-    "the item's phase or data length is out of range, or its area ends beyond that phase's length",
-    "the item's area shares a byte with an earlier item of the phase",
-    "after taking the item, over 16 items of its phase wait",
-    "the item's tag is not the HMAC of its message under its key",
-    "after the last item there are fewer than P x N (P burned chunks, N keys from each)",
-    "a phase's covered bytes are fewer than its length",
+    "behind the P burned chunks, a chunk differs between the two stores",
+    "the item is no entry and no filler, or the seal file ends before the item does",
+    "the item's number is not below P times N (P burned chunks, N keys from each)",
+    "the item has another chunk number or ratchet offset than its number gives",
+    "the entry names no phase of the store, has a data length outside 1 to 512, or reaches \
+     past its phase's length",
+    "the entry's area overlaps that of an earlier entry of its phase",
+    "after this entry more than 16 entries of its phase wait",
+    "the item's tag is not the one that its key gives for its message",
+    "there are fewer than P times N items (P burned chunks, N keys from each)",
+    "some phase's log is not covered up to its length",
 ];
 
 impl Refusal {
@@ -77,7 +80,7 @@ mod tests {
     fn display_names_rule_and_meaning() {
         assert_eq!(
             Refusal(3).to_string(),
-            "refused by rule 3: the log memory has the wrong length"
+            "refused by rule 3: the log memory is not 8,192 bytes for each phase"
         );
     }
 }

@@ -143,6 +143,7 @@ fn rejected_names_rule_and_item() {
     assert_eq!((rejected.refusal, rejected.item), (Refusal(21), Some(0)));
     assert_eq!(
         rejected.to_string(),
-        "refused by rule 21 at item 0: the item's tag is not the HMAC of its message under its key"
+        "refused by rule 21 at item 0: the item's tag is not the one that its key gives for its \
+         message"
     );
 }

@@ -71,7 +71,7 @@ fn json_of_refused_material_is_escaped() {
     seal[ENTRY - 1] ^= 1;
     let odd = folder.write("a \"seal\"\n\\.bin", &seal);
     let text = folder.audit(&["--json", "--seal", &odd]).ended(1);
-    let expected = r#"{"verdict":"refused","items":null,"rule":21,"item":0,"reason":"the item's tag is not the HMAC of its message under its key","detail":"At byte 0 of the seal file stands an entry of phase 1, offset 0, 10 bytes, chunk 0, ratchet offset 0.","files":{"#;
+    let expected = r#"{"verdict":"refused","items":null,"rule":21,"item":0,"reason":"the item's tag is not the one that its key gives for its message","detail":"At byte 0 of the seal file stands an entry of phase 1, offset 0, 10 bytes, chunk 0, ratchet offset 0.","files":{"#;
     assert!(text.starts_with(expected), "{text}");
     assert!(
         text.ends_with("/a \\\"seal\\\"\\u000a\\\\.bin\"}}\n"),

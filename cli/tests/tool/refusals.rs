@@ -39,9 +39,9 @@ fn unchecked(rule: u32, item: Option<u32>) -> Option<String> {
 
 #[test]
 fn rule_2() {
-    let words = "the store is under 18 bytes, has another kind, has a count outside its range or \
-                 has the wrong length. The device's store has 113 bytes, not the 114 of a header \
-                 and 3 chunks.";
+    let words = "the store lacks a whole header of kind 1, has phases, chunk count or ratchet out \
+                 of range, or is not as long as its header says. The device's store has 113 \
+                 bytes, not the 114 of a header and 3 chunks.";
     refused(2, None, words, |files| {
         files.device.pop();
     });
@@ -49,22 +49,21 @@ fn rule_2() {
 
 #[test]
 fn rule_3() {
-    let words = "the log memory has the wrong length. It has 16,385 bytes, not the 16,384 of 2 \
-                 phases.";
+    let words = "the log memory is not 8,192 bytes for each phase. It has 16,385 bytes, not the \
+                 16,384 of 2 phases.";
     refused(3, None, words, |files| files.logs.push(0));
 }
 
 #[test]
 fn rule_4() {
-    let words = "a burned chunk stands after one that is not burned. Chunk 1 is burned and chunk \
-                 0 is not.";
+    let words = "a chunk is burned although an earlier one is not. Chunk 1 is burned and chunk 0 \
+                 is not.";
     refused(4, None, words, |files| files.device[18] = 1);
 }
 
 #[test]
 fn rule_5() {
-    let rule = "the list of lengths has another number of entries than the phases, or one over \
-                8,192.";
+    let rule = "the lengths are not one for each phase, or one is above 8,192.";
     let words = format!("{rule} It has 7 bytes, not the 8 of 2 phases.");
     refused(5, None, &words, |files| {
         files.lengths.pop();
@@ -95,14 +94,14 @@ fn rule_13() {
 
 #[test]
 fn rule_14() {
-    let words = "a chunk from number P on differs between the two stores (P burned chunks). P is \
-                 2, and chunk 2 differs.";
+    let words = "behind the P burned chunks, a chunk differs between the two stores. P is 2, and \
+                 chunk 2 differs.";
     refused(14, None, words, |files| files.device[113] ^= 1);
 }
 
 #[test]
 fn rule_15() {
-    let rule = "the item's kind is neither 2 nor 3, or the bytes end inside it.";
+    let rule = "the item is no entry and no filler, or the seal file ends before the item does.";
     let words = format!(
         "{rule} Damaged from item 1 at byte 50: its kind is 7, neither 2 (entry) nor 3 (filler)."
     );
@@ -118,9 +117,9 @@ fn rule_15() {
 
 #[test]
 fn rule_16() {
-    let words = "the item's number is P x N or more (P burned chunks, N keys from each). At byte \
-                 291 of the seal file stands an entry of phase 1, offset 0, 10 bytes, chunk 0, \
-                 ratchet offset 0. P is 2 and N is 3: 6 items.";
+    let words = "the item's number is not below P times N (P burned chunks, N keys from each). At \
+                 byte 291 of the seal file stands an entry of phase 1, offset 0, 10 bytes, chunk \
+                 0, ratchet offset 0. P is 2 and N is 3: 6 items.";
     refused(16, Some(6), words, |files| {
         files.seal.extend_from_within(..ENTRY);
     });
@@ -128,9 +127,9 @@ fn rule_16() {
 
 #[test]
 fn rule_17() {
-    let words = "the item's chunk number or ratchet offset is not that of its number. At byte 50 \
-                 of the seal file stands an entry of phase 1, offset 10, 10 bytes, chunk 0, \
-                 ratchet offset 2. Item 1 ought to have chunk 0, ratchet offset 1.";
+    let words = "the item has another chunk number or ratchet offset than its number gives. \
+                 At byte 50 of the seal file stands an entry of phase 1, offset 10, 10 bytes, \
+                 chunk 0, ratchet offset 2. Item 1 ought to have chunk 0, ratchet offset 1.";
     refused(17, Some(1), words, |files| {
         files.seal.drain(ENTRY..2 * ENTRY);
     });
@@ -138,8 +137,8 @@ fn rule_17() {
 
 #[test]
 fn rule_18() {
-    let rule = "the item's phase or data length is out of range, or its area ends beyond that \
-                phase's length. At byte";
+    let rule = "the entry names no phase of the store, has a data length outside 1 to 512, or \
+                reaches past its phase's length. At byte";
     let words = format!(
         "{rule} 200 of the seal file stands an entry of phase 1, offset 20, 10 bytes, chunk 1, \
          ratchet offset 1. The area ends at 30, and the phase's length is 29."
@@ -161,7 +160,7 @@ fn rule_18() {
 
 #[test]
 fn rule_19() {
-    let words = "the item's area shares a byte with an earlier item of the phase. At byte 100 of \
+    let words = "the entry's area overlaps that of an earlier entry of its phase. At byte 100 of \
                  the seal file stands an entry of phase 1, offset 9, 10 bytes, chunk 0, ratchet \
                  offset 2. Item 0 has offset 0, 10 bytes.";
     refused(19, Some(2), words, |files| files.seal[2 * ENTRY + 2] = 9);
@@ -172,7 +171,7 @@ fn rule_19() {
 fn rule_20() {
     let entries = [(1, &b"x"[..]); 17];
     let files = sealed(store(1, 1, 17), &[100], &entries);
-    let words = "after taking the item, over 16 items of its phase wait. At byte 800 of the seal \
+    let words = "after this entry more than 16 entries of its phase wait. At byte 800 of the seal \
                  file stands an entry of phase 1, offset 116, 1 byte, chunk 0, ratchet offset 16. \
                  Of the phase, 0 of 117 bytes are covered so far, and 17 items wait.";
     refused_files(20, Some(16), words, &files);
@@ -180,22 +179,22 @@ fn rule_20() {
 
 #[test]
 fn rule_21() {
-    let words = "the item's tag is not the HMAC of its message under its key. At byte 150 of the \
-                 seal file stands an entry of phase 2, offset 4, 4 bytes, chunk 1, ratchet offset \
-                 0.";
+    let words = "the item's tag is not the one that its key gives for its message. At byte 150 of \
+                 the seal file stands an entry of phase 2, offset 4, 4 bytes, chunk 1, ratchet \
+                 offset 0.";
     refused(21, Some(3), words, |files| files.logs[8192 + 4] ^= 1);
 }
 
 #[test]
 fn rule_22() {
-    let words = "after the last item there are fewer than P x N (P burned chunks, N keys from \
-                 each). The seal file has 5 items. P is 2 and N is 3: 6 items.";
+    let words = "there are fewer than P times N items (P burned chunks, N keys from each). The \
+                 seal file has 5 items. P is 2 and N is 3: 6 items.";
     refused(22, None, words, |files| files.seal.truncate(5 * ENTRY));
 }
 
 #[test]
 fn rule_23() {
-    let words = "a phase's covered bytes are fewer than its length. Of phase 2, 8 of 9 bytes are \
+    let words = "some phase's log is not covered up to its length. Of phase 2, 8 of 9 bytes are \
                  covered without a gap.";
     refused(23, None, words, |files| files.set_lengths(&[30, 9]));
 }

@@ -1,0 +1,9 @@
+//! `docs/FORMAT.md`: its worked example against the proved calls, and its
+//! refusals against the header's and the tool's.
+
+#[path = "format/example.rs"]
+mod example;
+#[path = "format/page.rs"]
+mod page;
+#[path = "format/refusals.rs"]
+mod refusals;

@@ -1,0 +1,200 @@
+//! Section 12: every block and every answer is what the proved calls give.
+
+use std::collections::BTreeMap;
+
+use pahyndoi::model::ratchet_message;
+use pahyndoi::{State, append_raw, audit_raw, close_raw, hmac_sha256, open_raw};
+
+use crate::page;
+
+const EXAMPLE: u32 = 12;
+const DATA: &[u8] = b"07:00 164";
+const HEADER_LENGTH: usize = 18;
+const ENTRY_HEAD_LENGTH: usize = 18;
+const ENTRY_LENGTH: usize = 50;
+const FILLER_HEAD_LENGTH: usize = 9;
+
+/// One phase, one chunk and two keys from it.
+fn unused_store() -> Vec<u8> {
+    let counts = [1, 1, 0, 0, 0, 2, 0, 0, 0];
+    let chunk: Vec<u8> = (0x20..0x40).collect();
+    [&[1], &b"device 7"[..], &counts, &chunk].concat()
+}
+
+/// The fields in order, numbers little-endian.
+fn state_bytes(state: &State) -> Vec<u8> {
+    let lengths: Vec<u8> = state.lengths.iter().flat_map(|n| n.to_le_bytes()).collect();
+    let mut bytes = state.chunk.to_le_bytes().to_vec();
+    bytes.extend(state.offset.to_le_bytes());
+    bytes.extend(state.key);
+    bytes.extend(lengths);
+    bytes.extend(state.seal_length.to_le_bytes());
+    bytes
+}
+
+fn tag(key: &[u8], message: &[u8]) -> Vec<u8> {
+    let tag = hmac_sha256(key, message).expect("short enough");
+    tag.to_vec()
+}
+
+/// What the page says, as the calls give it.
+struct Run {
+    store: Vec<u8>,
+    logs: Vec<u8>,
+    seal: Vec<u8>,
+    state: State,
+    blocks: BTreeMap<String, Vec<u8>>,
+    answers: Vec<(&'static str, u64)>,
+}
+
+impl Run {
+    fn new() -> Run {
+        let mut run = Run {
+            store: unused_store(),
+            logs: vec![0; 8192],
+            seal: vec![0; 160],
+            state: State::default(),
+            blocks: BTreeMap::new(),
+            answers: Vec::new(),
+        };
+        run.sealed();
+        run.items();
+        run.audited();
+        run
+    }
+
+    fn block(&mut self, label: &str, bytes: Vec<u8>) {
+        self.blocks.insert(label.to_string(), bytes);
+    }
+
+    fn answer(&mut self, call: &'static str, answer: u64) {
+        self.answers.push((call, answer));
+    }
+
+    /// The calls of the device, and what each leaves.
+    fn sealed(&mut self) {
+        self.block("unused store", unused_store());
+        self.open();
+        self.block("state after open", state_bytes(&self.state));
+        self.append("append");
+        self.block("log memory after append", self.logs.clone());
+        self.block("store after append", self.store.clone());
+        self.block("state after append", state_bytes(&self.state));
+        self.block("key of item 1", self.state.key.to_vec());
+        self.audit("audit before the close");
+        self.close();
+        self.block("state after close", state_bytes(&self.state));
+        self.block("seal file", self.seal_file());
+        assert!(self.seal[self.seal_file().len()..].iter().all(|b| *b == 0));
+        self.append("append after the close");
+    }
+
+    fn open(&mut self) {
+        let Run {
+            state,
+            store,
+            logs,
+            seal,
+            ..
+        } = self;
+        let answer = open_raw(state, store, logs, &[0], seal, 0);
+        self.answer("open", answer);
+    }
+
+    fn append(&mut self, call: &'static str) {
+        let Run {
+            state,
+            store,
+            logs,
+            seal,
+            ..
+        } = self;
+        let answer = append_raw(state, store, logs, seal, 1, DATA);
+        self.answer(call, answer);
+    }
+
+    fn close(&mut self) {
+        let Run {
+            state,
+            store,
+            logs,
+            seal,
+            ..
+        } = self;
+        let answer = close_raw(state, store, logs, seal);
+        self.answer("close", answer);
+    }
+
+    fn seal_file(&self) -> Vec<u8> {
+        self.seal[..self.state.seal_length as usize].to_vec()
+    }
+
+    /// Messages, tags and keys of the two items.
+    fn items(&mut self) {
+        let seal_file = self.seal_file();
+        let (entry, filler) = seal_file.split_at(ENTRY_LENGTH);
+        let (entry_head, entry_tag) = entry.split_at(ENTRY_HEAD_LENGTH);
+        let (filler_head, filler_tag) = filler.split_at(FILLER_HEAD_LENGTH);
+        let message = [entry_head, &self.logs[..DATA.len()]].concat();
+        self.block("key of item 0", unused_store().split_off(HEADER_LENGTH));
+        self.block("message of item 0", message);
+        self.block("tag of item 0", entry_tag.to_vec());
+        self.block("ratchet message", ratchet_message(1, 2));
+        self.block("message of item 1", filler_head.to_vec());
+        self.block("tag of item 1", filler_tag.to_vec());
+    }
+
+    fn audited(&mut self) {
+        let lengths = self.state.lengths[0].to_le_bytes();
+        self.block("log lengths", lengths.to_vec());
+        self.audit("audit");
+        self.logs[0] = 0x31;
+        self.audit("audit with the changed byte");
+    }
+
+    fn audit(&mut self, call: &'static str) {
+        let Run { store, logs, .. } = &self;
+        let lengths = self.state.lengths[0].to_le_bytes();
+        let answer = audit_raw(store, &unused_store(), logs, &lengths, &self.seal_file());
+        self.answer(call, answer);
+    }
+}
+
+#[test]
+fn every_block_is_what_the_calls_give() {
+    let given = Run::new().blocks;
+    let page = page::blocks(page::section(EXAMPLE));
+    let labels: Vec<&String> = page.keys().collect();
+    assert_eq!(labels, given.keys().collect::<Vec<&String>>());
+    for (label, bytes) in page {
+        assert_eq!(bytes, given[&label], "{label}");
+    }
+}
+
+/// The messages and keys of the page make its tags and its second key.
+#[test]
+fn tags_and_keys_follow_from_messages() {
+    let page = page::blocks(page::section(EXAMPLE));
+    for item in [0, 1] {
+        let key = &page[&format!("key of item {item}")];
+        let message = &page[&format!("message of item {item}")];
+        assert_eq!(page[&format!("tag of item {item}")], tag(key, message));
+    }
+    let next = tag(&page["key of item 0"], &page["ratchet message"]);
+    assert_eq!(page["key of item 1"], next);
+}
+
+#[test]
+fn every_answer_is_what_the_calls_give() {
+    let rows = page::table(page::section(EXAMPLE), "| call | answer | that is |");
+    let page: Vec<(&str, String)> = rows
+        .iter()
+        .map(|row| (row[0], row[1].to_string()))
+        .collect();
+    let given: Vec<(&str, String)> = Run::new()
+        .answers
+        .iter()
+        .map(|(call, answer)| (*call, format!("`{answer:#018x}`")))
+        .collect();
+    assert_eq!(page, given);
+}
