@@ -46,7 +46,7 @@ impl fmt::Display for Rejected {
 impl Error for Rejected {}
 
 /// Audits the material: the item count when it is accepted, else the first
-/// rule that refuses it (2 to 5 and 12 to 23) and the item at fault.
+/// rule that refuses it (2 to 5, or 12 to 23) and the item at fault.
 ///
 /// For every input the answer is the one that the scheme's definition of the
 /// audit gives. Material as a controller's history of calls left it is

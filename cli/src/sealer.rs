@@ -9,7 +9,7 @@ use crate::{Refusal, State, append_raw, close_raw, open_raw};
 /// which `seal_length` bytes are in use. Nothing lent is written. The state
 /// stands at the first chunk that is not burned, offset 0.
 ///
-/// Refused with 2 to 6. Open only when no chunk is half used, as after
+/// Refused with 2 to 6. Open only while no chunk is half used, as after
 /// [`close`]: the keys left of a half used chunk are gone with its state.
 pub fn open(
     store: &[u8],

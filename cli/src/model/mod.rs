@@ -1,6 +1,5 @@
-//! The sealing scheme in plain Rust, written from the scheme's paper for
-//! comparison. Independent of the static library and of every proved
-//! definition.
+//! The sealing scheme of `docs/FORMAT.md` in plain Rust, for comparison.
+//! Independent of the static library and of every proved definition.
 
 mod account;
 mod audit;

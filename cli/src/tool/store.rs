@@ -96,7 +96,7 @@ pub fn is_burned(chunk: &[u8]) -> bool {
     chunk.iter().all(|byte| *byte == 0)
 }
 
-/// The number of burned chunks at the front of a well-formed store.
+/// How many chunks at the front of a well-formed store are burned.
 pub fn burned_at_front(store: &[u8]) -> usize {
     chunks(store).take_while(|chunk| is_burned(chunk)).count()
 }

@@ -1,4 +1,4 @@
--- Calls, the account of a history, and what a history is ("What a controller wrote"). Nothing here cites what the sealer does.
+-- Calls, the account of a history, and what a history is (FORMAT.md, 10). Nothing here cites what the sealer does.
 use mathlib.Core.Path.{_≡_}
 use mathlib.Core.Bool.{Bool, true, false, not, _||_, cond}
 use mathlib.Core.List.{List, [], _∷_, _++_}
@@ -13,7 +13,7 @@ use Rattle.scheme.specs.Keys.{keyAt, tagOf}
 use Rattle.scheme.specs.declared.ChunkNumber.{ChunkNumber}
 use Rattle.scheme.specs.declared.RatchetOffset.{RatchetOffset}
 
--- a call: an open with the log lengths and the seal length given, an append with phase and data, a close
+-- a call and what it was given: an open its log lengths and seal length, an append its phase and data, a close nothing
 pub data Call : Type 0 where
   Open : List ℕ → ℕ → Call
   Append : ℕ → List ℕ → Call
@@ -24,14 +24,14 @@ pub record Answer : Type 0 where
   pub refusal : ℕ
   pub count : ℕ
 
--- what the account is fed besides the calls: the unused store, and both memories as at the start
+-- what the account is fed besides the calls (FORMAT.md, 10, account): the unused store, and both memories as at the start
 pub record Fed : Type 0 where
   pub store : List ℕ
   pub logs : List ℕ
   pub seal : List ℕ
 
--- what the account holds: a chunk number, an offset, the items, a log for each phase, and whether the state was lost to a refused
--- open made with items standing
+-- what the account holds: a chunk number, an offset, the items, a log for each phase, and whether a refused open has lost the state, as it
+-- does when there is an item
 pub record Account : Type 0 where
   pub c : ChunkNumber
   pub r : RatchetOffset
@@ -66,7 +66,7 @@ carriedBy (it ∷ items) x = let rest = carriedBy items x in cond (eqb (chunkFie
 abbrev pub carried : Account → ℕ → Bool
 carried a x = carriedBy (a .items) x
 
--- stepping on: r grows by 1; where it reaches the ratchet, it becomes 0 and c grows by 1
+-- stepping on: 1 is added to r; if that makes the ratchet, r is 0 and c one more
 unfoldable pub stepOn : Fed → Account → Account
 stepOn f a =
     let r = suc (a .r .0) in
@@ -116,7 +116,7 @@ accountClose (suc n) f a =
 abbrev pub afterClose : Fed → Account → Account
 afterClose f a = accountClose (ratchet (f .store)) f a
 
--- the refusals, by the numbers that each call checks, in order, read on what the account holds and is fed
+-- the refusals, by the rules that each call checks (FORMAT.md, 9), in order, read on what the account holds and is fed
 unfoldable pub accountOpenRules : Fed → Account → List ℕ → ℕ → List Rule
 accountOpenRules f a lengths sealLength =
     let count = chunkCount (f .store) in
@@ -190,7 +190,7 @@ unfoldable pub answersFrom : Fed → Account → List Call → List Answer
 answersFrom f a [] = []
 answersFrom f a (call ∷ calls) = accountAnswer f a call ∷ answersFrom f (accountStep f a call) calls
 
--- what a history allows: an open that is not refused comes only when no chunk is half used, and is given the lengths reached
+-- what a history allows (FORMAT.md, 10, history): that an open does its work while no chunk is half used, with the lengths reached
 unfoldable pub Allowed : Fed → Account → Call → Type 0
 Allowed f a (Open lengths sealLength) =
     accountRefusal f a (Open lengths sealLength) ≡ 0 → (a .r .0 ≡ 0) × (lengths ≡ lengthsReached a) × (sealLength ≡ sealReached a)

@@ -13,11 +13,11 @@ pub record Device : Type 0 where
   pub logs : List ℕ
   pub seal : List ℕ
 
--- at the start the store is unused, and the sealing state is all zeros
+-- at the start of a history (FORMAT.md, 10) the state is all zeros
 abbrev pub deviceStarted : Fed → Device
 deviceStarted f = record { state = zeroState; store = f .store; logs = f .logs; seal = f .seal }
 
--- each call is handed store, memories and state as the last one left or gave them
+-- every call finds store, memories and state as the call before left them
 unfoldable pub effectOf : Device → Call → Effect
 effectOf d (Open lengths sealLength) = opens (d .store) (d .logs) lengths (d .seal) sealLength
 effectOf d (Append phase bytes) = appends (d .state) (d .store) (d .logs) (d .seal) phase bytes

@@ -68,7 +68,7 @@ module _ (device auditor logs lengths seal : List ℕ) where
   unfolding materialRules refusalBy
   bad-lengths bad = refused-early (rw bad)
 
--- a list of another number of entries than the phases
+-- a list that has not one length for each phase
 another-number : (device lengths : List ℕ) → (length lengths ≡ phases device → ⊥) → badLengths device lengths ≡ true
 unfolding badLengths
 another-number device lengths other =

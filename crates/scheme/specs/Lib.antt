@@ -1,4 +1,4 @@
--- Document 01 as definitions, in its order.
+-- docs/FORMAT.md, sections 1 to 9, as definitions. Comments cite its sections by number.
 pub mod Bytes
 pub mod Rules
 pub mod Store

@@ -47,7 +47,8 @@ struct Shape {
 }
 
 impl Shape {
-    /// Lengths as the paper has them, as far as the format can say them.
+    /// Lengths as `docs/FORMAT.md`, 2 and 4, has them, as far as a record can
+    /// say them.
     fn of(phases: u8, chunk_count: u32, ratchet: u32, seal_memory: u32) -> Shape {
         let chunks_length = chunk_count.wrapping_mul(CHUNK_LENGTH);
         Shape {
@@ -87,7 +88,7 @@ impl Script {
         );
     }
 
-    /// New material with the paper's lengths.
+    /// New material, with lengths as they ought to be.
     fn fresh(&mut self, phases: u8, chunk_count: u32, ratchet: u32, seal_memory: u32) {
         self.material(Shape::of(phases, chunk_count, ratchet, seal_memory));
     }

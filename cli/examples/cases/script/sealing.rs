@@ -14,7 +14,7 @@ pub(super) fn groups(script: &mut Script) {
 }
 
 fn one_key(script: &mut Script) {
-    script.label("one chunk, N = 1: the second append gives 11");
+    script.label("a store with one key: 11 at the second append");
     script.fresh(1, 1, 1, 1000);
     script.open(&[0], 0);
     script.close();

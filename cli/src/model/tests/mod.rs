@@ -1,4 +1,5 @@
-//! The paper's rows, each refusal at its two sides, and whole histories.
+//! The small cases of `docs/FORMAT.md`, 11, each refusal at its two sides, and
+//! whole histories.
 
 mod audit;
 mod history;

@@ -1,4 +1,4 @@
-//! The rows to try, but those of the hash.
+//! The small cases of `docs/FORMAT.md`, 11, but those of the hash.
 
 use super::*;
 
