@@ -14,7 +14,7 @@ pub struct Words {
     pub h: u32,
 }
 
-pub fn rotr(x: u32, n: u32) -> u32
+fn rotr(x: u32, n: u32) -> u32
     requires { ⌜ (0 < n) × (n < 32) ⌝ }
     ensures { λ r. ⌜ r ≡ Fips.rotr n x ⌝ }
 {

@@ -3,13 +3,12 @@ use mathlib.Core.Path.{_≡_, refl, sym, _∙_, ap, subst}
 use mathlib.Core.Bool.{Bool, true, false}
 use mathlib.Core.List.{List, [], _∷_, _++_, map, map-append, append-nil}
 use Prim.Native.Nat.{ℕ, zero, suc, _+_, _-_, _<_, _≤_}
-use native.Mathlib.Nat.{zero-add}
 use native.Mathlib.Omega.{arith}
 use borrow.Author.Tests.{le-leb, lt-leb, leb-true}
 use lib.Dec.{leb, lit≤}
 use lib.Bits.{bitXor}
-use lib.ListN.{length, getD, take, drop, set, replicate, length-append, length-map, length-replicate, replicate-append-replicate}
-use lib.Seq.{drop-cons, take-suc, length-take-le, append-snoc, set-at, getD-at, take-all, drop-length, drop-at}
+use lib.ListN.{length, getD, take, drop, set, replicate, length-append, length-map, length-replicate}
+use lib.Seq.{drop-cons, take-suc, length-take-le, append-snoc, set-at, getD-at, take-all, drop-length}
 use Rattle.compression.specs.Fips.{sha256}
 use Rattle.sha256.specs.State.{Stands}
 use Rattle.sha256.specs.declared.state.Sha256.{Sha256}
@@ -35,20 +34,12 @@ module _ (f : ℕ → ℕ) (l : List ℕ) (i : ℕ) (within : i < length l) wher
 pub mapped-all : (f : ℕ → ℕ) (l : List ℕ) (n : ℕ) → length l ≡ n → mapped f l n ≡ map f l
 mapped-all f l n e = rw (← e) (ap (λ xs. map f xs ++ drop (length l) l) (take-all (length l) l (omega arith)) ∙ ap (λ xs. map f l ++ xs) (drop-length l) ∙ append-nil (map f l))
 
--- what is left of a row of zeros
-zeros-left : (n m : ℕ) → n ≤ m → drop {A = ℕ} n (replicate m 0) ≡ replicate (m - n) 0
-zeros-left n m h =
-    let zeros : ℕ → List ℕ = λ k. replicate k 0 in
-    let whole : m ≡ n + (m - n) = omega arith in
-    ap (λ k. drop n (zeros k)) whole ∙ ap (drop n) (sym (replicate-append-replicate n (m - n) 0)) ∙
-    drop-at (zeros n) (zeros (m - n)) n (length-replicate n 0)
-
--- a short key at the front of a block of zeros is the padded key
+-- a short key with zeros behind it is the padded key
 pub padded-block : (key short block : List ℕ) → shortened key ≡ short → length short ≤ 64
-    → block ≡ take 0 (replicate 64 0) ++ short ++ drop (0 + length short) (replicate 64 0) → block ≡ padded key
+    → block ≡ take 64 short ++ replicate (64 - length short) 0 → block ≡ padded key
 unfolding padded
 padded-block key short block chosen fits laid =
-    laid ∙ ap (λ xs. short ++ xs) (rw zero-add (zeros-left (length short) 64 fits)) ∙
+    laid ∙ ap (λ xs. xs ++ replicate (64 - length short) 0) (take-all 64 short fits) ∙
     ap (λ s. s ++ replicate (64 - length s) 0) (sym chosen)
 
 pub key-taken : (key : List ℕ) → length key ≤ 64 → shortened key ≡ key

@@ -6,7 +6,7 @@ ghost use lib.Bits.{bitXor};
 ghost use Rattle.hmac.specs.Rfc2104 as Rfc2104;
 ghost use Rattle.hmac.specs.Keyed.{Keyed};
 use sha256::state::Sha256;
-use sha256::state::put;
+use sha256::state::first_block;
 
 // The hash states that have absorbed the key's inner and outer block, the inner one with the message so far behind it.
 pub struct Hmac {
@@ -74,9 +74,9 @@ fn padded(key: &[u8]) -> [u8; 64]
 {
     if BLOCK_LENGTH < key.len() {
         let digest = Sha256::new().update(key).finish();
-        return put([0; 64], 0, &digest);
+        return first_block(&digest);
     }
-    put([0; 64], 0, key)
+    first_block(key)
 }
 
 // Each byte of the block XOR the byte p.

@@ -1,8 +1,8 @@
 // A hash state that takes a message part after part.
 ghost use mathlib.Core.Path.{_≡_};
 ghost use mathlib.Core.List.{List, [], _++_};
-ghost use Prim.Native.Nat.{ℕ, _+_, _*_, _/_, _%_, _^_, _≤_, _<_};
-ghost use lib.ListN.{length, take, drop};
+ghost use Prim.Native.Nat.{ℕ, _+_, _-_, _*_, _/_, _%_, _^_, _≤_, _<_};
+ghost use lib.ListN.{length, take, drop, replicate};
 ghost use Rattle.compression.specs.Fips as Fips;
 ghost use Rattle.sha256.specs.State.{Held, Stands};
 use compression::blocks;
@@ -173,8 +173,18 @@ fn with_length(block: [u8; 64], count: u64) -> [u8; 64]
     b
 }
 
+// The first 64 bytes of the part, with zeros behind them where it has fewer.
+pub fn first_block(part: &[u8]) -> [u8; 64]
+    ensures { λ r. ⌜ r ≡ take 64 (now (part .entry)) ++ replicate (64 - length (now (part .entry))) 0 ⌝ }
+{
+    if 64 < part.len() {
+        return put([0; 64], 0, &part[..64]);
+    }
+    put([0; 64], 0, part)
+}
+
 // The block with the part written at a place.
-pub fn put(block: [u8; 64], at: usize, part: &[u8]) -> [u8; 64]
+fn put(block: [u8; 64], at: usize, part: &[u8]) -> [u8; 64]
     requires { ⌜ at + length (now part) ≤ 64 ⌝ }
     ensures { λ r. ⌜ r ≡ take at block ++ now (part .entry) ++ drop (at + length (now (part .entry))) block ⌝ }
 {

@@ -15,24 +15,24 @@ update-requires c κs = search needs
 finish-requires : tie.Need-finish-requires
 finish-requires c κs = search needs
 
-slice-aggregate-put : tie.Need-slice-aggregate-put
-slice-aggregate-put c = search needs
+slice-aggregate-first-block : tie.Need-slice-aggregate-first-block
+slice-aggregate-first-block c = search needs
 
-put-requires : tie.Need-put-requires
-put-requires c κs = search needs
+first-block-requires : tie.Need-first-block-requires
+first-block-requires c κs = search needs
 
 returns : tie.Need-returns
 returns c =
     let started = c .before .before .before .before .new .ensures in
     let absorbed = c .before .before .before .update .ensures _ started in
     let hashed = c .before .before .finish .ensures _ absorbed in
-    padded-block _ _ _ (key-hashed _ (omega arith) ∙ sym hashed) (omega arith) (c .put .ensures)
+    padded-block _ _ _ (key-hashed _ (omega arith) ∙ sym hashed) (omega arith) (c .first-block .ensures)
 
-put-requires-2 : tie.Need-put-requires-2
-put-requires-2 c κs = search needs
+first-block-requires-2 : tie.Need-first-block-requires-2
+first-block-requires-2 c κs = search needs
 
 returns-2 : tie.Need-returns-2
-returns-2 c = padded-block _ _ _ (key-taken _ (omega arith)) (omega arith) (c .put2 .ensures)
+returns-2 c = padded-block _ _ _ (key-taken _ (omega arith)) (omega arith) (c .first-block2 .ensures)
 
 pub padded-spec : {M : Type 1} → statement M
 padded-spec =
@@ -41,8 +41,8 @@ padded-spec =
     new-requires
     update-requires
     finish-requires
-    slice-aggregate-put
-    put-requires
+    slice-aggregate-first-block
+    first-block-requires
     returns
-    put-requires-2
+    first-block-requires-2
     returns-2)
