@@ -1,18 +1,19 @@
--- The audit accepts what a history left, untouched, where no chunk is half used: it is as Acceptable has it.
+-- What a history left, untouched, fits the audit's rules up to the end of the items (`left-fitting`): the audit accepts it where no chunk
+-- is half used (`honest`), and misses the items of a half-used one (`half-way`).
 use mathlib.Core.Path.{_≡_, refl, _∙_, ap, subst}
-use mathlib.Core.List.{List, []}
-use Prim.Native.Nat.{ℕ, suc, _-_, _≤_, _<_}
-use native.Mathlib.Nat.{le-refl}
+use mathlib.Core.List.{List, [], _∷_, _++_}
+use Prim.Native.Nat.{ℕ, suc, _-_, _*_, _≤_, _<_}
+use native.Mathlib.Nat.{le-refl, suc-mul}
 use native.Mathlib.Omega.{arith}
 use lib.ListN.{length, take, drop}
 use lib.Seq.{split-at}
-use Rattle.scheme.specs.Store.{entryKind, phases, chunk}
+use Rattle.scheme.specs.Store.{entryKind, phases, ratchet, chunk, burnedFront}
 use Rattle.scheme.specs.Items.{kindOf, phaseOf}
 use Rattle.scheme.specs.Areas.{areaOf, areaEnd, areasIn, covered, waiting, waitingAllowed, lengthIn, Runs}
 use Rattle.scheme.specs.Audit.{audit}
-use Rattle.scheme.specs.Acceptable.{Acceptable}
-use Rattle.scheme.proofs.Acceptance.{acceptable}
-use Rattle.scheme.proofs.Acceptance.Areas.{areas-up-to, apart, covers}
+use Rattle.scheme.proofs.Acceptance.{Fitting, fitting-accepted, fitting-missing}
+use Rattle.scheme.proofs.Acceptance.Areas.{covers}
+use Rattle.scheme.proofs.Acceptance.MaterialRules.{Material, front-is}
 use Rattle.scheme.proofs.Headers.{same-message, same-entry-length, same-filler-length}
 use Rattle.scheme.proofs.Tags.{same-tag}
 use Rattle.scheme.proofs.Burning.{zeroed-later, zeroed-burned}
@@ -21,7 +22,7 @@ use Rattle.claims.specs.Account.{Fed, Account, logOf, lengthsReached}
 use Rattle.claims.specs.Claim.{Starts, storeLeft, logsLeft, sealFile}
 use Rattle.claims.proofs.Good.{Good, itemOf, InLog}
 use Rattle.claims.proofs.Steps.Begun.{begun}
-use Rattle.claims.proofs.Steps.StoreLeft.{front, front-whole, front-at-most, store-left}
+use Rattle.claims.proofs.Steps.StoreLeft.{front, front-whole, front-half, front-keys, front-at-most, store-left}
 use Rattle.claims.proofs.Steps.Device.{lengths-at, lengths-length, left-header, left-fields, left-store, left-logs}
 
 module _ (f : Fed) (a : Account) (good : Good f a) where
@@ -44,15 +45,14 @@ module _ (f : Fed) (a : Account) (good : Good f a) where
         runs-before (take k (a .items)) (itemOf a k) (drop (suc k) (a .items)) (kind, refl)
         (subst (λ (l : List (List ℕ)). Runs 0 (areasIn (phaseOf (itemOf a k)) l) (length (logOf a (phaseOf (itemOf a k))))) (split-at (a .items) k [] h) (good .runs (phaseOf (itemOf a k)) (entry .low) (entry .high)))
 
-    none-waiting : waiting (lengthIn (lengthsReached a) (phaseOf (itemOf a k))) (areasIn (phaseOf (itemOf a k)) (take (suc k) (a .items))) ≤ waitingAllowed
+    none-waiting : waiting (lengthIn (lengthsReached a) (phaseOf (itemOf a k))) (areasIn (phaseOf (itemOf a k)) (take k (a .items)) ++ (areaOf (itemOf a k) ∷ [])) ≤ waitingAllowed
     none-waiting =
-        rw (areas-up-to (a .items) k h (phaseOf (itemOf a k)) (kind, refl), none-waits (lengthIn (lengthsReached a) (phaseOf (itemOf a k))) (runs-append begins (run-one {area = areaOf (itemOf a k)} refl refl)) inside) (omega arith)
+        rw (none-waits (lengthIn (lengthsReached a) (phaseOf (itemOf a k))) (runs-append begins (run-one {area = areaOf (itemOf a k)} refl refl)) inside) (omega arith)
 
-module _ (f : Fed) (a : Account) (starts : Starts f) (good : Good f a) (whole : a .r .0 ≡ 0) where
-  left-acceptable : Acceptable (storeLeft f a) (f .store) (logsLeft f a) (lengthsReached a) (sealFile a) (length (a .items))
-  left-acceptable =
+module _ (f : Fed) (a : Account) (starts : Starts f) (good : Good f a) where
+  left-material : Material (storeLeft f a) (f .store) (logsLeft f a) (lengthsReached a) (front a)
+  left-material =
       let st = f .store in
-      let left = storeLeft f a in
       let b = begun f starts in
       let fields = left-fields f b a good in
       let most = front-at-most f a good (b .store) in
@@ -65,26 +65,51 @@ module _ (f : Fed) (a : Account) (starts : Starts f) (good : Good f a) (whole : 
         memory = rw (fields .phases, fields .logCapacity) (left-logs f b a good ∙ b .memory);
         listed = rw (fields .phases) (lengths-length (a .logs) ∙ good .logs .count);
         limited = λ i h. rw (lengths-at (a .logs) i, fields .logCapacity) (good .logs .sizes i);
-        burned = front a;
-        front = rw (fields .chunkCount) most;
+        front-most = rw (fields .chunkCount) most;
         spent = λ x h. ap (λ (l : List ℕ). chunk l x) zeros ∙ zeroed-burned st (b .store) (front a) most x h;
         kept = λ x low high. ap (λ (l : List ℕ). chunk l x) zeros ∙ zeroed-later st (b .store) (front a) most x low;
-        items = a .items;
-        file = refl;
-        number = rw (fields .ratchet, front-whole a whole) (omega (arith, good .number));
-        count = refl;
-        form = λ k h. rw (same-entry-length left st fields, same-filler-length left st fields) (good .items k h .form);
-        place = λ k h. rw (fields .ratchet) (good .items k h .chunk, good .items k h .offset);
-        tag = λ k h. rw (fields .ratchet, same-tag left st fields, same-message left st fields) (good .items k h .tag);
-        ranges = λ k h kind.
-            let e = entry f a good k h kind in
-            (e .low, rw (fields .phases) (e .high), e .some, rw (fields .dataLimit) (e .few), inside f a good k h kind);
-        apart = apart (a .items) (λ k h kind. run-apart (areaOf (itemOf a k)) (begins f a good k h kind) (le-refl _));
-        whole = λ p i low high h. covers p (a .items) (lengthIn (lengthsReached a) p) .0 (full f a good p low (rw (fields .phases) at high)) i h;
-        patience = none-waiting f a good;
       }
 
-pub honest : (f : Fed) (a : Account) → Starts f → Good f a → a .r .0 ≡ 0
-    → audit (storeLeft f a) (f .store) (logsLeft f a) (lengthsReached a) (sealFile a) ≡ record { refusal = 0; number = length (a .items) }
-honest f a starts good whole =
-    acceptable (storeLeft f a) (f .store) (logsLeft f a) (lengthsReached a) (sealFile a) (length (a .items)) (left-acceptable f a starts good whole)
+  -- the burned chunks' keys
+  keys-left : burnedFront (storeLeft f a) * ratchet (storeLeft f a) ≡ front a * ratchet (f .store)
+  keys-left =
+      rw (front-is (storeLeft f a) (f .store) (logsLeft f a) (lengthsReached a) (front a) left-material, left-fields f (begun f starts) a good .ratchet)
+
+  -- what is left fits, half way through a chunk or not
+  left-fitting : Fitting (storeLeft f a) (f .store) (logsLeft f a) (lengthsReached a) (sealFile a) (front a) (a .items)
+  left-fitting =
+      let st = f .store in
+      let left = storeLeft f a in
+      let b = begun f starts in
+      let fields = left-fields f b a good in
+      record {
+        material = left-material;
+        file = refl;
+        each = λ k h. record {
+          form = rw (same-entry-length left st fields, same-filler-length left st fields) (good .items k h .form);
+          due = rw keys-left (omega (arith, front-keys f a good (b .store)));
+          place = rw (fields .ratchet) (good .items k h .chunk, good .items k h .offset);
+          ranges = λ kind.
+              let e = entry f a good k h kind in
+              (e .low, rw (fields .phases) (e .high), e .some, rw (fields .dataLimit) (e .few), inside f a good k h kind);
+          free = λ kind. run-apart (areaOf (itemOf a k)) (begins f a good k h kind) (le-refl _);
+          patience = none-waiting f a good k h;
+          tag = rw (fields .ratchet, same-tag left st fields, same-message left st fields) (good .items k h .tag);
+        };
+      }
+
+  pub honest : a .r .0 ≡ 0
+      → audit (storeLeft f a) (f .store) (logsLeft f a) (lengthsReached a) (sealFile a) ≡ record { refusal = 0; number = length (a .items) }
+  honest whole =
+      let phases-left = left-fields f (begun f starts) a good .phases in
+      fitting-accepted (storeLeft f a) (f .store) (logsLeft f a) (lengthsReached a) (sealFile a) (front a) (a .items) left-fitting
+      (record {
+        enough = rw (keys-left, front-whole a whole) (omega (arith, good .number));
+        whole = λ p low high i h. covers p (a .items) (lengthIn (lengthsReached a) p) .0 (full f a good p low (rw phases-left at high)) i h;
+      })
+
+  pub half-way : 0 < a .r .0
+      → audit (storeLeft f a) (f .store) (logsLeft f a) (lengthsReached a) (sealFile a) ≡ record { refusal = 22; number = 0 }
+  half-way some =
+      fitting-missing (storeLeft f a) (f .store) (logsLeft f a) (lengthsReached a) (sealFile a) (front a) (a .items) left-fitting
+      (rw (keys-left, front-half a some, suc-mul) (omega (arith, good .number, good .offset)))

@@ -12,6 +12,7 @@ pub mod Items
 pub mod Tags
 pub mod Places
 pub mod Areas
+pub mod Refused
 pub mod Acceptance
 pub mod Burning
 pub mod Runs

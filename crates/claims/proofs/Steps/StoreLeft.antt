@@ -26,6 +26,9 @@ front a = cond (eqb (a .r .0) 0) (a .c .0) (suc (a .c .0))
 pub front-whole : (a : Account) → a .r .0 ≡ 0 → front a ≡ a .c .0
 front-whole a e = rw (eq-eqb (a .r .0) 0 e)
 
+pub front-half : (a : Account) → 0 < a .r .0 → front a ≡ suc (a .c .0)
+front-half a h = rw (ne-eqb (a .r .0) 0 (λ none. omega arith))
+
 module _ (f : Fed) (a : Account) (good : Good f a) (ok : KeyStore (f .store)) where
   pub chunk-at-most : a .c .0 ≤ chunkCount (f .store)
   chunk-at-most = le-of-mul-le-mul-right {k = ratchet (f .store)} (omega arith) (omega arith)
@@ -34,7 +37,7 @@ module _ (f : Fed) (a : Account) (good : Good f a) (ok : KeyStore (f .store)) wh
   chunk-below h = lt-of-mul-lt-mul-right (ratchet (f .store)) (omega arith)
 
   -- the burned chunks have keys for all items, and without the last one they have not
-  front-keys : (length (a .items) ≤ front a * ratchet (f .store)) × (front a * ratchet (f .store) < length (a .items) + ratchet (f .store))
+  pub front-keys : (length (a .items) ≤ front a * ratchet (f .store)) × (front a * ratchet (f .store) < length (a .items) + ratchet (f .store))
   front-keys =
       by-cases (ℕ-discrete (a .r .0) 0)
       (λ none. rw (eq-eqb (a .r .0) 0 none) (omega arith, omega arith))
