@@ -1,10 +1,11 @@
 -- Demand 3, whole: the claim holds of every history; and what the audit says half way through a chunk.
-use mathlib.Core.Path.{_≡_}
+use mathlib.Core.Path.{_≡_, ap, _∙_}
 use mathlib.Core.List.{List}
 use native.Mathlib.Omega.{arith}
 use lib.ListN.{take}
 use Rattle.scheme.specs.Audit.{Said, audit}
 use Rattle.scheme.proofs.Splice.{splice-inside}
+use Rattle.scheme.proofs.Acceptance.Walk.{acceptsWith}
 use Rattle.claims.specs.Account.{Call, Fed, Account, started, accountFrom, lengthsReached, sealReached, HistoryFrom}
 use Rattle.claims.specs.Claim.{Starts, Claim, HalfWay, storeLeft, logsLeft, sealFile, sealLeft, untouched}
 use Rattle.claims.proofs.Good.{Good}
@@ -31,8 +32,8 @@ claim f starts calls history =
     let g = good f starts calls in
     record {
       kept = kept f starts calls history;
-      compromise = compromise f a g;
-      honest = λ closed. untouched-is f starts calls history _ (honest f a starts g closed);
+      compromise = λ device logs lengths seal accepted. compromise f a g device logs lengths seal (omega arith);
+      honest = λ closed. untouched-is f starts calls history _ (honest f a starts g closed) ∙ ap acceptsWith (omega arith);
     }
 
 pub half-way : (f : Fed) → Starts f → (calls : List Call) → HistoryFrom f (started f) calls → HalfWay f calls

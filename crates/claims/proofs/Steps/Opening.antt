@@ -166,7 +166,7 @@ module _ (f : Fed) (begun : Begun f) (a : Account) (good : Good f a) where
             let given = allowed none in
             record {
               answer = ap (λ (n : ℕ). record { refusal = n; count = 0 }) none ∙ sym (answer-done f a call none);
-              device = same-device (opened-held (given .0) (given .1) (given .2))
+              device = same-device (opened-held (omega arith) (given .1) (given .2))
                   (store-same false (done-good f begun a call good none)) refl refl
                   ∙ ap (deviceOf f) (sym (step-done f a call none));
             }

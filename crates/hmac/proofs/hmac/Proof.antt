@@ -1,7 +1,10 @@
 -- `hmac::hmac` meets its contract: each refusal is its test's, and the tag is HMAC's.
-use mathlib.Core.Path.{_∙_, ap}
+use mathlib.Core.Path.{_≡_, _∙_, ap}
+use mathlib.Core.Bool.{false}
+use native.Mathlib.Omega.{arith}
+use lib.ListN.{length}
 use borrow.Author.Tests.{le-leb, lt-leb}
-use Rattle.sha256.specs.Call.{refusalOf}
+use Rattle.sha256.specs.Call.{lengthLimit, refusalOf, within}
 use borrow.Author.Needs.{needs}
 use Rattle.hmac.proofs.hmac.Statement.{statement}
 use Rattle.hmac.proofs.hmac.Tie as tie
@@ -11,7 +14,8 @@ refused-requires c κs = search needs
 
 returns : tie.Need-returns
 returns c =
-    let long = lt-leb _ _ (c .before .if1 .taken) in
+    let key = c .before .before .before .before .args .key .now in
+    let long : within key ≡ false = lt-leb (length key) lengthLimit (omega arith) in
     record { refusal = ap refusalOf (c .refused .ensures .0) ∙ rw long; bytes = c .refused .ensures .1 ∙ rw long }
 
 refused-requires-2 : tie.Need-refused-requires-2

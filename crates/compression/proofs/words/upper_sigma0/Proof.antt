@@ -3,6 +3,7 @@ use borrow.Author.Needs.{needs}
 use mathlib.Core.Path.{ap, ap₂, _∙_}
 use Prim.Native.Nat.{ℕ}
 use native.Mathlib.Omega.{arith}
+use lib.Bits.{xor-comm}
 use Rattle.compression.proofs.Bits.{two-rotations}
 use Rattle.compression.specs.Fips.{Σ₀, _⊕_, rotr}
 use Rattle.compression.proofs.words.upper_sigma0.Statement.{statement}
@@ -22,8 +23,9 @@ unfolding Σ₀
 returns c =
     let start = c .before .before .before in
     let x = start .args .x in
-    let pair = c .before .rotr2 .ensures ∙ ap (λ (y : ℕ). rotr 2 (x ⊕ y)) (c .before .before .rotr .ensures) in
-    ap₂ _⊕_ pair (c .rotr3 .ensures) ∙ two-rotations 2 11 x (rotr 22 x) (omega arith) (start .fits .x .fits)
+    let pair = c .before .rotr2 .ensures ∙ ap (λ (y : ℕ). rotr _ (x ⊕ y)) (c .before .before .rotr .ensures) in
+    let sum = ap₂ _⊕_ pair (c .rotr3 .ensures) ∙ two-rotations _ _ x _ (omega arith) (start .fits .x .fits) in
+    sum ∙ cc (xor-comm (rotr 13 x) (rotr 22 x))
 
 pub upper-sigma0-spec : {M : Type 1} → statement M
 upper-sigma0-spec = tie.close (tie.spec rotr-requires rotr-requires-2 rotr-requires-3 returns)

@@ -1,12 +1,14 @@
 -- `packed::auditing::read_lengths` meets its contract. The loop's invariant: the first i lengths are the first i numbers of the bytes.
 use mathlib.Core.Path.{_≡_, refl, sym, ap, _∙_}
 use mathlib.Core.List.{List, [], _∷_, _++_}
-use Prim.Native.Nat.{_-_, _≤_}
+use Prim.Native.Nat.{_-_, _*_, _≤_}
+use native.Mathlib.Nat.{mul-comm}
 use native.Mathlib.Numerals.{add-one}
 use native.Mathlib.Omega.{arith}
 use borrow.Author.Needs.{needs}
 use lib.ListN.{length, take, length-set}
 use lib.Seq.{take-suc-set}
+use Rattle.scheme.specs.Bytes.{num, part}
 use Rattle.packed.specs.Audited.{words}
 use Rattle.packed.proofs.Listing.{no-words, one-length-more}
 use Rattle.packed.proofs.auditing.read_lengths.Statement.{statement}
@@ -46,7 +48,8 @@ loop-again c =
     let read = c .read-u32 in
     let put = take-suc-set (l .lengths) (l .i) (read .result) (omega arith) in
     let first = ap (λ ls. ls ++ (read .result ∷ [])) (l .inv .1) in
-    let last = ap (λ n. words (l .i) bytes ++ (n ∷ [])) (read .ensures) in
+    let here : read .result ≡ num (part bytes (4 * l .i) 4) = cc (mul-comm (l .i) 4) in
+    let last = ap (λ n. words (l .i) bytes ++ (n ∷ [])) here in
     (search needs, rw add-one (put ∙ first ∙ last ∙ sym (one-length-more (l .i) bytes)), simp length-set (l .inv .2))
 
 returns : tie.Need-returns Inv-loop μ-loop

@@ -71,14 +71,13 @@ returns : tie.Need-returns Inv-loop μ-loop
 returns c =
     let a = c .before .before .args in
     let l = c .before .loop in
-    let n = a .count % 0x2000000000000000 * 8 in
     let done : l .i ≡ 56 = omega arith in
     let same = ap (λ (k : ℕ). take k (l .b)) (sym done) ∙ l .inv .3 ∙ ap (λ (k : ℕ). take k (a .block)) done in
     let more = ap (λ (k : ℕ). bigEndian (k - 56) (l .n) ++ drop k (l .b)) (sym done) ∙ l .inv .4 in
     sym (take-append-drop 56 (l .b))
     ∙ ap₂ (λ (f g : List ℕ). f ++ g) same more
-    ∙ sym (append-assoc (take 56 (a .block)) (bigEndian 8 n) (drop 64 (a .block)))
-    ∙ ap (λ (bytes : List ℕ). take 56 (a .block) ++ bytes ++ drop 64 (a .block)) (bytes-mod 8 n (8 * a .count) (omega arith))
+    ∙ sym (append-assoc (take 56 (a .block)) _ (drop 64 (a .block)))
+    ∙ ap (λ (bytes : List ℕ). take 56 (a .block) ++ bytes ++ drop 64 (a .block)) (bytes-mod 8 _ (8 * a .count) (omega arith))
 
 pub with-length-spec : {M : Type 1} → statement M
 with-length-spec = tie.close (tie.spec Inv-loop μ-loop mul-n loop-holds sub-i cast-b array-write-b loop-less loop-again returns)
