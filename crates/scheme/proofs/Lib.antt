@@ -2,6 +2,7 @@
 pub mod Tests
 pub mod Rules
 pub mod Answers
+pub mod Named
 pub mod Bytes
 pub mod Splice
 pub mod Numbers
