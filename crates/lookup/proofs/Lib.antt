@@ -1,0 +1,6 @@
+-- The laws that the functions' proofs cite.
+pub mod Holding
+pub mod Seeking
+pub mod Looking
+pub mod Searching
+pub mod Exactly
