@@ -17,7 +17,7 @@ use Rattle.scheme.specs.Store.{phases, logCapacity, badStore, badLogs, burnedLa
 use Rattle.scheme.specs.Audit.{Said, audit, materialRules}
 use Rattle.scheme.proofs.Acceptance.Stores.{key-store}
 use Rattle.scheme.proofs.Rules.{any-at}
-use Rattle.packed.specs.Audited.{words, listed, Counted}
+use Rattle.packed.specs.Lengths.{words, listed, Counted}
 
 -- ---- the numbers of bytes
 

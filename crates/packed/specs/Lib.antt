@@ -1,2 +1,3 @@
 pub mod Surface
+pub mod Lengths
 pub mod Audited

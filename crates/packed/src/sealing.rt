@@ -4,10 +4,10 @@ ghost use Prim.Native.Nat.{_<_, _^_};
 ghost use Rattle.scheme.specs.Answers.{outcomeRefusal, outcomeCount};
 ghost use Rattle.packed.specs.Surface.{packed, Opened, Appended, Closed};
 use crate::answers::code;
+use crate::answers::refused_code;
 use scheme::Outcome;
 use scheme::Sealed;
 use scheme::State;
-use scheme::refusal_number;
 
 // The answer in one word, and the state that the call gives.
 pub struct Packed {
@@ -72,6 +72,6 @@ fn outcome_code(outcome: Outcome) -> u64
 {
     match outcome {
         Outcome::Done(count) => code(0, count),
-        Outcome::Refused(refusal) => code(refusal_number(refusal), 0),
+        Outcome::Refused(refusal) => refused_code(refusal, 0),
     }
 }
