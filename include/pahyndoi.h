@@ -1,7 +1,8 @@
 /*
  * Sealed phase logs: SHA-256 (FIPS 180-4), HMAC-SHA-256 (RFC 2104, FIPS
- * 198-1), the sealer that opens a key store, appends and closes, and the
- * audit. The archive asks for memcpy and memset alone, and allocates nothing.
+ * 198-1), the sealer that opens a key store, appends and closes, the audit,
+ * and which item sealed a byte. The archive asks for memcpy and memset alone,
+ * and allocates nothing.
  */
 
 #ifndef PAHYNDOI_H
@@ -59,7 +60,7 @@ uint32_t pahyndoi_hmac_sha256(const uint8_t *key, size_t key_length,
                               const uint8_t *message, size_t message_length,
                               uint8_t tag[32]);
 
-/* ---- Sealer and audit ---- */
+/* ---- Sealer, audit and lookups ---- */
 
 /*
  * Of the calls below: every pointer must be readable, and writable where it is
@@ -83,9 +84,10 @@ uint32_t pahyndoi_hmac_sha256(const uint8_t *key, size_t key_length,
 #define PAHYNDOI_FILLER_SIZE 41
 
 /*
- * Open, append, close and the audit answer one 64-bit number: the refusal
- * times 2 to the 32, plus a number that each call explains. Nothing is refused
- * exactly if the refusal is 0; the answer is then just the number.
+ * Open, append, close, the audit and item_at answer one 64-bit number: the
+ * refusal times 2 to the 32, plus a number that each call explains. Nothing is
+ * refused exactly if the refusal is 0; the answer is then just the number.
+ * data_at answers a place and a length in the same way.
  */
 #define PAHYNDOI_REFUSAL(answer) ((uint32_t)((uint64_t)(answer) >> 32))
 #define PAHYNDOI_NUMBER(answer) ((uint32_t)(uint64_t)(answer))
@@ -151,7 +153,10 @@ enum pahyndoi_refusal {
        each). */
     PAHYNDOI_ITEMS_MISSING = 22,
     /* Some phase's log is not covered up to its length. */
-    PAHYNDOI_NOT_COVERED = 23
+    PAHYNDOI_NOT_COVERED = 23,
+    /* The phase is not one of the store's, or the offset is not below the
+       phase's length. */
+    PAHYNDOI_NO_SUCH_BYTE = 24
 };
 
 /*
@@ -258,6 +263,41 @@ uint64_t pahyndoi_audit(const uint8_t *device, size_t device_size,
                         const uint8_t *lengths, size_t lengths_size,
                         const uint8_t *seal, size_t seal_size);
 
+/*
+ * Which item sealed the byte at the offset of the phase's log (1 is the first
+ * phase): audits the material, then looks for the entry whose area holds the
+ * byte. In accepted material exactly one does; the number answered is that of
+ * this item, counted from 0.
+ *
+ * What the audit refuses is refused so, with the number that the audit
+ * answers; then comes 24, with the number 0. Material and lengths are lent as
+ * to the audit. Everything is only read.
+ */
+uint64_t pahyndoi_item_at(const uint8_t *device, size_t device_size,
+                          const uint8_t *auditor, size_t auditor_size,
+                          const uint8_t *logs, size_t logs_size,
+                          const uint8_t *lengths, size_t lengths_size,
+                          const uint8_t *seal, size_t seal_size,
+                          uint8_t phase, uint32_t offset);
+
+/*
+ * Where the data of that item stand in the log memory, all of them and not
+ * only the byte asked for: the answer is the place of their first byte in logs
+ * times 2 to the 32, plus how many they are (1 to 512). It is 0 where
+ * pahyndoi_item_at, handed the same, is refused, and only there; that call
+ * says by which rule. Everything is only read.
+ */
+uint64_t pahyndoi_data_at(const uint8_t *device, size_t device_size,
+                          const uint8_t *auditor, size_t auditor_size,
+                          const uint8_t *logs, size_t logs_size,
+                          const uint8_t *lengths, size_t lengths_size,
+                          const uint8_t *seal, size_t seal_size,
+                          uint8_t phase, uint32_t offset);
+
+/* The two halves of what pahyndoi_data_at answers. */
+#define PAHYNDOI_PLACE(answer) ((uint32_t)((uint64_t)(answer) >> 32))
+#define PAHYNDOI_LENGTH(answer) ((uint32_t)(uint64_t)(answer))
+
 /* ---- Stack and registers ---- */
 
 /*
@@ -271,8 +311,8 @@ uint64_t pahyndoi_audit(const uint8_t *device, size_t device_size,
  *                          that it burned), and the key that the state holds;
  *   close                  the keys that sealed the fillers;
  *   append, close refused  the key that the state holds;
- *   audit                  the auditor's keys of the items that it came to, and
- *                          the key due after them;
+ *   audit, item_at,        the auditor's keys of the items that the audit came
+ *   data_at                to, and the key due after them;
  *   hmac_sha256            the key, or its digest if it is over 64 bytes, and
  *                          what sha256 leaves;
  *   sha256                 the end of the message, and hash values on the way.
@@ -287,10 +327,11 @@ uint64_t pahyndoi_audit(const uint8_t *device, size_t device_size,
 
 /*
  * The stack that a call uses at most, in bytes below the caller's frame, with
- * arguments and return address: open, append and close; audit; sha256 and
- * hmac_sha256. Measured and read off the machine code for the archive as
- * rt staticlib builds it for x86-64, with some 600 bytes to spare for memcpy
- * and memset; not proved. Running out of stack is outside the proofs as well.
+ * arguments and return address: open, append and close; audit, item_at and
+ * data_at; sha256 and hmac_sha256. Measured and read off the machine code for
+ * the archive as rt staticlib builds it for x86-64, with some 500 bytes to
+ * spare for memcpy and memset; not proved. Running out of stack is outside the
+ * proofs as well.
  *
  * Link memcpy and memset statically or with -z now. A dynamic linker that
  * looks them up at their first call saves registers kilobytes deeper.

@@ -23,7 +23,7 @@ pub struct Material<'a> {
     pub seal_file: &'a [u8],
 }
 
-/// An audit's refusal.
+/// An audit's refusal, or a lookup's.
 #[derive(Clone, Copy, Debug, PartialEq, Eq)]
 pub struct Rejected {
     pub refusal: Refusal,
@@ -59,7 +59,17 @@ pub fn audit(material: &Material) -> Result<u64, Rejected> {
         lengths,
         seal_file,
     } = *material;
-    let answer = audit_raw(device_store, auditor_store, logs, lengths, seal_file);
+    unpacked(audit_raw(
+        device_store,
+        auditor_store,
+        logs,
+        lengths,
+        seal_file,
+    ))
+}
+
+/// The number that a call answers, or the refusal with the item that it names.
+pub(crate) fn unpacked(answer: u64) -> Result<u64, Rejected> {
     match (answer >> 32) as u32 {
         0 => Ok(answer),
         number => Err(Rejected {

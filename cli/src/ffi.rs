@@ -58,6 +58,34 @@ unsafe extern "C" {
         seal: *const u8,
         seal_length: usize,
     ) -> u64;
+    fn pahyndoi_item_at(
+        device: *const u8,
+        device_length: usize,
+        auditor: *const u8,
+        auditor_length: usize,
+        logs: *const u8,
+        logs_length: usize,
+        lengths: *const u8,
+        lengths_length: usize,
+        seal: *const u8,
+        seal_length: usize,
+        phase: u8,
+        offset: u32,
+    ) -> u64;
+    fn pahyndoi_data_at(
+        device: *const u8,
+        device_length: usize,
+        auditor: *const u8,
+        auditor_length: usize,
+        logs: *const u8,
+        logs_length: usize,
+        lengths: *const u8,
+        lengths_length: usize,
+        seal: *const u8,
+        seal_length: usize,
+        phase: u8,
+        offset: u32,
+    ) -> u64;
 }
 
 /// The sealing state, laid out as `struct pahyndoi_state`.
@@ -174,6 +202,68 @@ pub fn audit_raw(device: &[u8], auditor: &[u8], logs: &[u8], lengths: &[u8], sea
             lengths.len(),
             seal.as_ptr(),
             seal.len(),
+        )
+    }
+}
+
+/// Looks a byte up and gives the call's answer: the item's number, else the
+/// refusal times 2^32 plus the number that the audit names.
+pub fn item_at_raw(
+    device: &[u8],
+    auditor: &[u8],
+    logs: &[u8],
+    lengths: &[u8],
+    seal: &[u8],
+    phase: u8,
+    offset: u32,
+) -> u64 {
+    // SAFETY: each slice is readable for its length and no pointer is null;
+    // nothing is written.
+    unsafe {
+        pahyndoi_item_at(
+            device.as_ptr(),
+            device.len(),
+            auditor.as_ptr(),
+            auditor.len(),
+            logs.as_ptr(),
+            logs.len(),
+            lengths.as_ptr(),
+            lengths.len(),
+            seal.as_ptr(),
+            seal.len(),
+            phase,
+            offset,
+        )
+    }
+}
+
+/// Looks a byte up and gives the call's answer: the place of the item's data
+/// in the log memory times 2^32 plus their length, or 0 where refused.
+pub fn data_at_raw(
+    device: &[u8],
+    auditor: &[u8],
+    logs: &[u8],
+    lengths: &[u8],
+    seal: &[u8],
+    phase: u8,
+    offset: u32,
+) -> u64 {
+    // SAFETY: each slice is readable for its length and no pointer is null;
+    // nothing is written.
+    unsafe {
+        pahyndoi_data_at(
+            device.as_ptr(),
+            device.len(),
+            auditor.as_ptr(),
+            auditor.len(),
+            logs.as_ptr(),
+            logs.len(),
+            lengths.as_ptr(),
+            lengths.len(),
+            seal.as_ptr(),
+            seal.len(),
+            phase,
+            offset,
         )
     }
 }

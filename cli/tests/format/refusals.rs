@@ -77,7 +77,7 @@ fn page_header_and_tool_say_the_same() {
         .iter()
         .map(|row| (number_of(row), row[1].to_string()))
         .collect();
-    let tool: Vec<(u32, String)> = (1..=23)
+    let tool: Vec<(u32, String)> = (1..=24)
         .map(|number| (number, Refusal(number).meaning().to_string()))
         .collect();
     assert_eq!(page, tool);

@@ -1,3 +1,4 @@
 -- The laws that the functions' proofs cite.
 pub mod Packing
 pub mod Listing
+pub mod Zero

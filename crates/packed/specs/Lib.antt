@@ -1,3 +1,4 @@
 pub mod Surface
 pub mod Lengths
 pub mod Audited
+pub mod LookedUp

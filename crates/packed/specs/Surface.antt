@@ -6,9 +6,9 @@ use Rattle.scheme.specs.Sealer.{opens, appends, closes}
 use Rattle.scheme.specs.declared.State.{State}
 use Rattle.packed.specs.declared.sealing.Packed.{Packed}
 
--- the 64-bit answer: the refusal times 2 to the 32 plus the number
+-- the 64-bit answer: the refusal, or another first number, times 2 to the 32 plus the number
 abbrev pub packed : ℕ → ℕ → ℕ
-packed refusal number = refusal * 2 ^ 32 + number
+packed first number = first * 2 ^ 32 + number
 
 -- open writes only the state
 pub record Opened (store logs lengths seal : List ℕ) (sealLength : ℕ) (r : Packed) : Type 0 where

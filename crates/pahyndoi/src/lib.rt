@@ -3,8 +3,11 @@ ghost use mathlib.Core.Path.{_≡_};
 ghost use Rattle.pahyndoi.specs.Hash.{Hashed, Tagged};
 ghost use Rattle.packed.specs.Surface.{Opened, Appended, Closed};
 ghost use Rattle.packed.specs.Audited.{Audited};
+ghost use Rattle.packed.specs.LookedUp.{LookedUp, Located};
 ghost use Rattle.sha256.specs.Call.{refusalOf};
 use packed::auditing::audit_packed;
+use packed::looking::data_at_packed;
+use packed::looking::item_at_packed;
 use packed::sealing::append_packed;
 use packed::sealing::close_packed;
 use packed::sealing::open_packed;
@@ -113,4 +116,39 @@ pub extern "C" fn pahyndoi_audit(
         (now (seal .entry)) r ⌝ }
 {
     audit_packed(device, auditor, logs, lengths, seal)
+}
+
+// Which item sealed the byte at the offset of the phase's log, of what is lent as to the audit: refusal (the audit's, then 24) times 2 to the 32 plus
+// number. Nothing is written.
+#[no_mangle]
+pub extern "C" fn pahyndoi_item_at(
+    device: &[u8],
+    auditor: &[u8],
+    logs: &[u8],
+    lengths: &[u8],
+    seal: &[u8],
+    phase: u8,
+    offset: u32,
+) -> u64
+    ensures { λ r. ⌜ LookedUp (now (device .entry)) (now (auditor .entry)) (now (logs .entry)) (now (lengths .entry))
+        (now (seal .entry)) phase offset r ⌝ }
+{
+    item_at_packed(device, auditor, logs, lengths, seal, phase, offset)
+}
+
+// Where that item's data begin in the log memory, times 2 to the 32, plus how many they are; 0 where the lookup is refused. Nothing is written.
+#[no_mangle]
+pub extern "C" fn pahyndoi_data_at(
+    device: &[u8],
+    auditor: &[u8],
+    logs: &[u8],
+    lengths: &[u8],
+    seal: &[u8],
+    phase: u8,
+    offset: u32,
+) -> u64
+    ensures { λ r. ⌜ Located (now (device .entry)) (now (auditor .entry)) (now (logs .entry)) (now (lengths .entry))
+        (now (seal .entry)) phase offset r ⌝ }
+{
+    data_at_packed(device, auditor, logs, lengths, seal, phase, offset)
 }
