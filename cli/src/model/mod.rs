@@ -6,6 +6,7 @@ mod audit;
 mod bytes;
 mod item;
 mod key;
+mod lookup;
 mod refusal;
 mod sealing;
 mod store;
@@ -13,9 +14,10 @@ mod store;
 mod tests;
 
 pub use account::{Account, Call, is_history};
-pub use audit::{Presented, audit, audit_packed};
+pub use audit::{Presented, audit, audit_packed, log_lengths};
 pub use item::{ENTRY_LENGTH, FILLER_LENGTH, Head, Item};
 pub use key::{Position, key_at, next_key, position, ratchet_message};
+pub use lookup::Audited;
 pub use sealing::{State, append, close, open};
 pub use store::{Header, burned_at_front, chunk, is_burned};
 
@@ -63,5 +65,10 @@ impl Answer {
 
     fn refused(refusal: u32) -> Self {
         Answer { refusal, number: 0 }
+    }
+
+    /// The refusal times 2 to the 32 plus the number.
+    pub fn packed(self) -> u64 {
+        (u64::from(self.refusal) << 32) + u64::from(self.number)
     }
 }

@@ -4,18 +4,22 @@ use super::*;
 
 /// What an audit reads, owned.
 #[derive(Clone)]
-struct Case {
-    device_store: Vec<u8>,
-    auditor_store: Vec<u8>,
-    log_memory: Vec<u8>,
-    log_lengths: Vec<u32>,
-    seal_file: Vec<u8>,
+pub(super) struct Case {
+    pub(super) device_store: Vec<u8>,
+    pub(super) auditor_store: Vec<u8>,
+    pub(super) log_memory: Vec<u8>,
+    pub(super) log_lengths: Vec<u32>,
+    pub(super) seal_file: Vec<u8>,
 }
 
 impl Case {
     /// Items sealed with the first keys of a store: entries by phase, offset
     /// and data length, fillers by none. All chunks they begin are burned.
-    fn of(unused: Vec<u8>, log_lengths: &[u32], items: &[Option<(u8, u32, u32)>]) -> Case {
+    pub(super) fn of(
+        unused: Vec<u8>,
+        log_lengths: &[u32],
+        items: &[Option<(u8, u32, u32)>],
+    ) -> Case {
         let header = Header::parse(&unused).expect("a store");
         let mut case = Case {
             device_store: unused.clone(),
@@ -35,7 +39,7 @@ impl Case {
     }
 
     /// Adds an item with a right tag.
-    fn push(&mut self, position: Position, entry: Option<(u8, u32, u32)>) {
+    pub(super) fn push(&mut self, position: Position, entry: Option<(u8, u32, u32)>) {
         let header = Header::parse(&self.auditor_store).expect("a store");
         let chunk = chunk(&self.auditor_store, position.chunk);
         let key = key_at(plain_hmac, chunk, position.offset, header.ratchet);
@@ -63,7 +67,7 @@ impl Case {
         self.log_memory.get(area).unwrap_or_default()
     }
 
-    fn presented(&self) -> Presented<'_> {
+    pub(super) fn presented(&self) -> Presented<'_> {
         Presented {
             device_store: &self.device_store,
             auditor_store: &self.auditor_store,
@@ -87,7 +91,7 @@ impl Case {
 }
 
 /// Two phases, three chunks, N = 2; four items, two chunks burned.
-fn four_items() -> Case {
+pub(super) fn four_items() -> Case {
     let items = [Some((1, 0, 5)), Some((2, 0, 3)), Some((1, 5, 2)), None];
     Case::of(store(2, 3, 2), &[7, 3], &items)
 }

@@ -3,6 +3,7 @@
 
 mod audit;
 mod history;
+mod lookup;
 mod rows;
 mod sealing;
 
