@@ -1,6 +1,6 @@
-//! The library's open, append, close and audit compared with the model's on
-//! random cases: answers, states and every byte. `PAHYNDOI_SEED` and
-//! `PAHYNDOI_CASES` choose other cases than the usual ones.
+//! The library's open, append, close, audit and lookups compared with the
+//! model's on random cases: answers, states and every byte. `PAHYNDOI_SEED`
+//! and `PAHYNDOI_CASES` choose other cases than the usual ones.
 
 #[path = "histories/accounts.rs"]
 mod accounts;
@@ -26,8 +26,12 @@ mod largest;
 mod lent;
 #[path = "histories/library.rs"]
 mod library;
+#[path = "histories/lookups.rs"]
+mod lookups;
 #[path = "histories/mishap.rs"]
 mod mishap;
+#[path = "histories/places.rs"]
+mod places;
 #[path = "histories/presentation.rs"]
 mod presentation;
 #[path = "histories/random.rs"]
@@ -95,6 +99,7 @@ fn histories_are_those_of_their_account() {
         tally.assert_all_met("append", &[0, 6, 7, 8, 9, 10, 11]);
         tally.assert_all_met("close", &[0, 6, 10]);
         tally.assert_all_met("audit", &[0, 22]);
+        tally.assert_all_met("lookup", &[0, 22, 24]);
     }
 }
 
@@ -104,62 +109,98 @@ const AUDIT_REFUSALS: [u32; 17] = [
 ];
 
 #[test]
-fn audits_are_those_of_the_model() {
+fn audits_and_lookups_are_those_of_the_model() {
     let run = Run::new(4000);
     let mut tally = Tally::default();
     let mut accepted = 0;
     for number in 0..run.cases {
         let mut case = run.case(number);
-        let answers = [audit_damaged(&mut case), audit_forged(&mut case)].concat();
-        accepted += answers
-            .iter()
-            .filter(|answer| is_accepted(**answer))
-            .count();
-        answers
-            .iter()
-            .for_each(|answer| tally.note("audit", *answer));
+        let damaged = audit_damaged(&mut case, &mut tally);
+        let forged = audit_forged(&mut case, &mut tally);
+        let answers = damaged.iter().chain(&forged);
+        accepted += answers.filter(|answer| is_accepted(**answer)).count();
     }
     tally.print();
     println!("accepted with a count above 0: {accepted}");
     if run.whole {
         tally.assert_all_met("audit", &AUDIT_REFUSALS);
+        tally.assert_all_met("lookup", &[&AUDIT_REFUSALS[..], &[24]].concat());
         assert!(accepted > run.cases, "few audits were accepted");
     }
 }
 
 /// Audits honest material as it is, then with up to two damages.
-fn audit_damaged(case: &mut Case) -> Vec<u64> {
+fn audit_damaged(case: &mut Case, tally: &mut Tally) -> Vec<u64> {
     let (honest, other) = honest::random_pair(&mut case.random);
     let mut answers = Vec::new();
     for round in 0..6 {
         case.step = format!("honest material, damage {round}");
         let damages = case.random.up_to(2).min(round);
         let damaged = damage::damaged(&mut case.random, &honest, &other, damages);
-        answers.push(damaged.compare(&mut case.random));
+        answers.push(damaged.compare(&mut case.random, tally));
     }
     answers
 }
 
-fn audit_forged(case: &mut Case) -> Vec<u64> {
+fn audit_forged(case: &mut Case, tally: &mut Tally) -> Vec<u64> {
     let mut answers = Vec::new();
     for round in 0..3 {
         case.step = format!("forgery {round}");
         let forgery = forgery::random_forgery(&mut case.random);
-        answers.push(forgery.compare(&mut case.random));
+        answers.push(forgery.compare(&mut case.random, tally));
     }
     answers
+}
+
+/// The most entries of one material that are looked for from their bytes.
+const ENTRIES_LOOKED_FOR: usize = 60;
+
+/// From entries to their bytes and back, in what controllers left and in what
+/// forgers put in another order.
+#[test]
+fn entries_are_found_again_from_their_bytes() {
+    let run = Run::new(100);
+    let mut tally = Tally::default();
+    let mut looked_up = 0;
+    for number in 0..run.cases {
+        looked_up += find_entries_again(&mut run.case(number), &mut tally);
+    }
+    tally.print();
+    println!("bytes looked up there and back: {looked_up}");
+    if run.whole {
+        assert!(looked_up > 50 * run.cases, "few bytes were looked up");
+    }
+}
+
+fn find_entries_again(case: &mut Case, tally: &mut Tally) -> usize {
+    let (honest, other) = honest::random_pair(&mut case.random);
+    let forgeries = [0; 4].map(|_| forgery::random_forgery(&mut case.random));
+    let controllers = [honest, other].map(|honest| honest.presentation);
+    let mut looked_up = 0;
+    for (number, material) in controllers.iter().chain(&forgeries).enumerate() {
+        case.step = format!("material {number}");
+        if is_accepted(material.compare(&mut case.random, tally)) {
+            looked_up += material.go_there_and_back(&mut case.random, ENTRIES_LOOKED_FOR);
+        }
+    }
+    looked_up
 }
 
 /// Forged entries whose answer is known beforehand.
 #[test]
 fn areas_are_taken_as_written() {
     let mut case = Run::new(1).case(0);
+    let mut tally = Tally::default();
     for row in rows::rows() {
         case.step = row.name.to_string();
         let forgery = forgery::seal_areas(&mut case.random, &row.lengths, &row.areas);
-        let answer = forgery.compare(&mut case.random);
+        let answer = forgery.compare(&mut case.random, &mut tally);
         assert_eq!(split(answer), row.answer);
+        if is_accepted(answer) {
+            forgery.go_there_and_back(&mut case.random, row.areas.len());
+        }
     }
+    tally.print();
 }
 
 /// All bits of one small material, one after the other, and every length of
@@ -175,11 +216,14 @@ fn no_bit_and_no_length_can_be_changed() {
 #[test]
 fn largest_material_is_audited_to_its_last_byte() {
     let mut case = Run::new(1).case(0);
+    let mut tally = Tally::default();
     let mut largest: Presentation = largest::material(&mut case.random);
     let items = largest::ITEMS as u32;
-    let answer = largest.compare(&mut case.random);
+    let answer = largest.compare_at(&mut case.random, &mut tally, &[(8, 8191), (8, 8192)]);
     assert_eq!(split(answer), (0, items));
+    largest.go_there_and_back(&mut case.random, 2);
     *largest.seal_file.last_mut().expect("a tag") ^= 1;
-    let answer = largest.compare(&mut case.random);
+    let answer = largest.compare_at(&mut case.random, &mut tally, &[(8, 8191)]);
     assert_eq!(split(answer), (21, items - 1));
+    tally.print();
 }

@@ -35,7 +35,7 @@ pub fn check_history(case: &mut Case, tally: &mut Tally) {
     recorded.make(Call::Close);
     let Recorded { start, calls, .. } = &recorded;
     assert!(is_history(plain_hmac, start, calls), "not a history");
-    tally.note("audit", recorded.audit(&mut case.random));
+    recorded.audit(&mut case.random, tally);
 }
 
 impl Recorded {
@@ -135,7 +135,7 @@ impl Recorded {
 
     /// Untouched material is accepted with the true count, but for a chunk
     /// that is still half used.
-    fn audit(&self, random: &mut Random) -> u64 {
+    fn audit(&self, random: &mut Random, tally: &mut Tally) {
         let seal_length = self.account.seal_length() as usize;
         let left = &self.device.material;
         let presentation = Presentation {
@@ -145,12 +145,11 @@ impl Recorded {
             length_bytes: length_bytes(&self.account.log_lengths()),
             seal_file: left.seal_memory[..seal_length].to_vec(),
         };
-        let answer = presentation.compare(random);
+        let answer = presentation.compare(random, tally);
         let expected = match self.is_half_way() {
             true => (22, 0),
             false => (0, self.account.items().len() as u32),
         };
         assert_eq!(split(answer), expected, "audit of untouched material");
-        answer
     }
 }

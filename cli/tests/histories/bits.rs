@@ -5,6 +5,7 @@ use pahyndoi::model::{Account, Call, LOG_CAPACITY, plain_hmac};
 use crate::answer::split;
 use crate::device::Shape;
 use crate::honest;
+use crate::places::Place;
 use crate::presentation::Presentation;
 use crate::random::{Case, Random};
 use crate::tally::Tally;
@@ -27,7 +28,8 @@ const LOGS: Part = ("log memory", |material| &mut material.log_memory);
 /// and the material is still accepted.
 pub fn check_changes(case: &mut Case, tally: &mut Tally) {
     let untouched = small_material(&mut case.random);
-    assert_eq!(untouched.compare(&mut case.random), 4);
+    let answer = untouched.compare_at(&mut case.random, tally, &all_places());
+    assert_eq!(answer, 4);
     for part in PARTS {
         let length = part.1(&mut untouched.clone()).len();
         flip_bits(case, tally, &untouched, part, 0..length);
@@ -37,6 +39,14 @@ pub fn check_changes(case: &mut Case, tally: &mut Tally) {
         let start = LOG_CAPACITY * phase;
         flip_bits(case, tally, &untouched, LOGS, start..start + length);
     }
+}
+
+/// Every phase with the offsets that its logs have and some that they have not.
+fn all_places() -> Vec<Place> {
+    let offsets = || (0..10).chain([255, 256, 8191, 8192, 65_536, u32::MAX]);
+    (0..=255)
+        .flat_map(|phase| offsets().map(move |offset| (phase, offset)))
+        .collect()
 }
 
 /// Two phases, three chunks, N = 2: three entries and a filler.
@@ -84,7 +94,6 @@ fn resize(case: &mut Case, tally: &mut Tally, untouched: &Presentation, (name, p
 }
 
 fn check_refused(case: &mut Case, tally: &mut Tally, changed: &Presentation) {
-    let answer = changed.compare(&mut case.random);
+    let answer = changed.compare(&mut case.random, tally);
     assert_ne!(split(answer).0, 0, "accepted");
-    tally.note("audit", answer);
 }

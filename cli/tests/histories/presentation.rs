@@ -1,11 +1,14 @@
-//! What is presented to the audit, and the audit by library and model.
+//! What is presented to the audit; audit and lookups by library and model.
 
-use pahyndoi::audit_raw;
-use pahyndoi::model::{Presented, audit_packed, plain_hmac};
+use pahyndoi::model::{Audited, Presented, log_lengths, plain_hmac};
+use pahyndoi::{Material, audit_raw};
 
-use crate::answer::split;
+use crate::answer::{is_accepted, split};
 use crate::lent::{Lent, assert_only_read};
+use crate::lookups;
+use crate::places::{Place, random_places};
 use crate::random::Random;
+use crate::tally::Tally;
 
 const GUARD: u8 = 0x5a;
 
@@ -25,20 +28,55 @@ pub fn length_bytes(lengths: &[u32]) -> Vec<u8> {
 }
 
 impl Presentation {
-    /// Audits by both and gives the packed answer. Fails where they differ or
-    /// where the library wrote.
-    pub fn compare(&self, random: &mut Random) -> u64 {
-        let ours = self.audit_by_library(random.up_to(8));
-        let models = self.audit_by_model();
-        assert_eq!(split(ours), split(models), "audits: ours, model's");
-        ours
+    /// Audits by both, looks some bytes up by both, notes the answers and
+    /// gives the audit's. Fails where they differ or where the library wrote.
+    pub fn compare(&self, random: &mut Random, tally: &mut Tally) -> u64 {
+        let places = random_places(random, self);
+        let answer = self.compare_at(random, tally, &places);
+        if is_accepted(answer) {
+            self.go_there_and_back(random, 1);
+        }
+        answer
     }
 
-    fn audit_by_library(&self, shift: usize) -> u64 {
+    /// The same with these bytes looked up.
+    pub fn compare_at(&self, random: &mut Random, tally: &mut Tally, places: &[Place]) -> u64 {
+        let log_lengths = log_lengths(&self.length_bytes);
+        let audited = Audited::new(plain_hmac, &self.presented(&log_lengths));
+        self.lend(random.up_to(8), |material| {
+            let ours = audit(material);
+            let models = audited.answer().packed();
+            assert_eq!(split(ours), split(models), "audits: ours, model's");
+            tally.note("audit", ours);
+            for place in places {
+                let answer = lookups::compare(material, &audited, *place);
+                tally.note("lookup", answer);
+            }
+            ours
+        })
+    }
+
+    /// From up to so many entries of accepted material to bytes of theirs and
+    /// back; answers how many bytes.
+    pub fn go_there_and_back(&self, random: &mut Random, most: usize) -> usize {
+        self.lend(random.up_to(8), |material| {
+            lookups::go_there_and_back(random, material, most)
+        })
+    }
+
+    /// Lends a copy to the library. Fails where it was written.
+    fn lend<T>(&self, shift: usize, use_it: impl FnOnce(&Material) -> T) -> T {
         let parts = self.parts();
         let lent = parts.map(|bytes| Lent::new(bytes, GUARD, shift));
-        let [device, auditor, logs, lengths, seal] = lent.each_ref().map(Lent::content);
-        let answer = audit_raw(device, auditor, logs, lengths, seal);
+        let [device_store, auditor_store, logs, lengths, seal_file] =
+            lent.each_ref().map(Lent::content);
+        let answer = use_it(&Material {
+            device_store,
+            auditor_store,
+            logs,
+            lengths,
+            seal_file,
+        });
         for (lent, before) in lent.into_iter().zip(parts) {
             assert_only_read(lent, before);
         }
@@ -55,14 +93,24 @@ impl Presentation {
         ]
     }
 
-    fn audit_by_model(&self) -> u64 {
-        let presented = Presented {
+    fn presented<'a>(&'a self, log_lengths: &'a [u32]) -> Presented<'a> {
+        Presented {
             device_store: &self.device_store,
             auditor_store: &self.auditor_store,
             log_memory: &self.log_memory,
-            log_lengths: &[],
+            log_lengths,
             seal_file: &self.seal_file,
-        };
-        audit_packed(plain_hmac, &presented, &self.length_bytes)
+        }
     }
+}
+
+fn audit(material: &Material) -> u64 {
+    let Material {
+        device_store: device,
+        auditor_store: auditor,
+        logs,
+        lengths,
+        seal_file: seal,
+    } = *material;
+    audit_raw(device, auditor, logs, lengths, seal)
 }
