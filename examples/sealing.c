@@ -80,14 +80,37 @@ static uint64_t close_store(pahyndoi_state *state)
     return answer;
 }
 
-/* The audit of the memories as they stand, with the lengths that the state holds, 4 bytes each. */
+/* The lengths that the state holds, 4 bytes each. */
+static void put_lengths(uint8_t lengths[4 * PHASES], const pahyndoi_state *state)
+{
+    for (size_t i = 0; i < 4 * PHASES; i++)
+        lengths[i] = (uint8_t)(state->lengths[i / 4] >> (8 * (i % 4)));
+}
+
+/* The audit of the memories as they stand. */
 static uint64_t audit(const pahyndoi_state *state)
 {
     uint8_t lengths[4 * PHASES];
-    for (size_t i = 0; i < sizeof lengths; i++)
-        lengths[i] = (uint8_t)(state->lengths[i / 4] >> (8 * (i % 4)));
+    put_lengths(lengths, state);
     return pahyndoi_audit(store, sizeof store, auditor, sizeof auditor, logs, sizeof logs,
                           lengths, sizeof lengths, seal, (size_t)state->seal_length);
+}
+
+/* Which item sealed a byte of a phase's log, and the text that it sealed, if it is not refused. */
+static void look_up(const pahyndoi_state *state, uint8_t phase, uint32_t offset)
+{
+    uint8_t lengths[4 * PHASES];
+    uint64_t item, data;
+    put_lengths(lengths, state);
+    item = pahyndoi_item_at(store, sizeof store, auditor, sizeof auditor, logs, sizeof logs,
+                            lengths, sizeof lengths, seal, (size_t)state->seal_length, phase,
+                            offset);
+    data = pahyndoi_data_at(store, sizeof store, auditor, sizeof auditor, logs, sizeof logs,
+                            lengths, sizeof lengths, seal, (size_t)state->seal_length, phase,
+                            offset);
+    printf("byte %u of phase %u: refusal %u, number %u, \"%.*s\"\n", (unsigned)offset,
+           (unsigned)phase, (unsigned)PAHYNDOI_REFUSAL(item), (unsigned)PAHYNDOI_NUMBER(item),
+           (int)PAHYNDOI_LENGTH(data), (const char *)logs + PAHYNDOI_PLACE(data));
 }
 
 /* The digest of "abc" (an example of FIPS 180-4), and the tag of RFC 4231's second case. */
@@ -120,8 +143,13 @@ int main(void)
     print_answer("close", close_store(&state));
     print_answer("audit", audit(&state));
 
-    /* "door shut" stands behind the 11 bytes of "door opened". */
+    /* "door shut" stands behind the 11 bytes of "door opened" and ends before byte 20. */
+    look_up(&state, 1, 10);
+    look_up(&state, 1, 11);
+    look_up(&state, 2, 17);
+    look_up(&state, 1, 20);
     logs[11] = 'D';
     print_answer("audit of an altered log", audit(&state));
+    look_up(&state, 1, 0);
     return 0;
 }
