@@ -16,6 +16,7 @@ pahyndoi_state state;
 
 uint8_t phase;
 size_t data_size, key_size, message_size;
+uint32_t offset;
 uint64_t answer;
 close_call *close_function = pahyndoi_close;
 
@@ -64,6 +65,7 @@ void unused_device(uint32_t ratchet)
     seal_size = sizeof seal;
     lengths_count = PHASES;
     phase = 1;
+    offset = 0;
     data_size = 1;
 }
 
@@ -86,13 +88,34 @@ void close_job(void)
     answer = close_function(&state, store, store_size, logs, logs_size, seal, seal_size);
 }
 
-void audit_job(void)
+/* The log lengths that the state holds, as bytes. */
+static const uint8_t *lengths_of_state(void)
 {
     static uint8_t lengths[4 * PHASES];
     for (size_t i = 0; i < PHASES; i++)
         put_number(lengths + 4 * i, state.lengths[i]);
-    answer = pahyndoi_audit(store, store_size, auditor, sizeof auditor, logs, logs_size, lengths,
-                            4 * lengths_count, seal, (size_t)state.seal_length);
+    return lengths;
+}
+
+void audit_job(void)
+{
+    answer = pahyndoi_audit(store, store_size, auditor, sizeof auditor, logs, logs_size,
+                            lengths_of_state(), 4 * lengths_count, seal,
+                            (size_t)state.seal_length);
+}
+
+void item_at_job(void)
+{
+    answer = pahyndoi_item_at(store, store_size, auditor, sizeof auditor, logs, logs_size,
+                              lengths_of_state(), 4 * lengths_count, seal,
+                              (size_t)state.seal_length, phase, offset);
+}
+
+void data_at_job(void)
+{
+    answer = pahyndoi_data_at(store, store_size, auditor, sizeof auditor, logs, logs_size,
+                              lengths_of_state(), 4 * lengths_count, seal,
+                              (size_t)state.seal_length, phase, offset);
 }
 
 void sha256_job(void)

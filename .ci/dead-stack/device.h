@@ -33,6 +33,9 @@ extern pahyndoi_state state;
 extern uint8_t phase;
 extern size_t data_size, key_size, message_size;
 
+/* The byte of the phase's log that is looked up. */
+extern uint32_t offset;
+
 /* What the last call answered; of sha256 and hmac the refusal, in its place. */
 extern uint64_t answer;
 
@@ -40,6 +43,8 @@ void open_job(void);
 void append_job(void);
 void close_job(void);
 void audit_job(void);
+void item_at_job(void);
+void data_at_job(void);
 void sha256_job(void);
 void hmac_job(void);
 

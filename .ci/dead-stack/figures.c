@@ -17,22 +17,40 @@ static struct call opening = {"open", open_job, PAHYNDOI_SEALING_STACK, 0};
 static struct call appending = {"append", append_job, PAHYNDOI_SEALING_STACK, 0};
 static struct call closing = {"close", close_job, PAHYNDOI_SEALING_STACK, 0};
 static struct call auditing = {"audit", audit_job, PAHYNDOI_AUDIT_STACK, 0};
+static struct call item_finding = {"item_at", item_at_job, PAHYNDOI_AUDIT_STACK, 0};
+static struct call data_finding = {"data_at", data_at_job, PAHYNDOI_AUDIT_STACK, 0};
 static struct call hashing = {"sha256", sha256_job, PAHYNDOI_HASH_STACK, 0};
 static struct call tagging = {"hmac_sha256", hmac_job, PAHYNDOI_HASH_STACK, 0};
 
-/* The call as the device stands, which must give this refusal and keep to its figure. */
-static void measure(struct call *call, uint32_t refusal)
+/* The call as the device stands, which must keep to its figure. */
+static void measure_depth(struct call *call)
 {
     paint(PAINT);
     run(call->job, 0);
-    if (PAHYNDOI_REFUSAL(answer) != refusal)
-        fail("%s gave refusal %u, not %u", call->name, (unsigned)PAHYNDOI_REFUSAL(answer),
-             (unsigned)refusal);
     if (depth() > call->figure)
         fail("%s went %zu bytes deep, its figure in pahyndoi.h is %zu", call->name, depth(),
              call->figure);
     if (depth() > call->deepest)
         call->deepest = depth();
+}
+
+/* The same for a call that must give this refusal. */
+static void measure(struct call *call, uint32_t refusal)
+{
+    measure_depth(call);
+    if (PAHYNDOI_REFUSAL(answer) != refusal)
+        fail("%s gave refusal %u, not %u", call->name, (unsigned)PAHYNDOI_REFUSAL(answer),
+             (unsigned)refusal);
+}
+
+/* Both lookups, which must give this refusal: data_at does not say which it is. */
+static void measure_lookups(uint32_t refusal)
+{
+    measure(&item_finding, refusal);
+    measure_depth(&data_finding);
+    if ((answer == 0) != (refusal != 0))
+        fail("data_at gave %u bytes with refusal %u of item_at",
+             (unsigned)PAHYNDOI_LENGTH(answer), (unsigned)refusal);
 }
 
 static void measure_open(void)
@@ -111,30 +129,51 @@ static void craft_waiting(uint32_t waiting)
         state.lengths[p] = waiting + 1;
 }
 
-static void measure_audit(void)
+/* The audit and both lookups, all refused alike. */
+static void measure_refused(uint32_t refusal)
+{
+    measure(&auditing, refusal);
+    measure_lookups(refusal);
+}
+
+/* Nothing sealed; then material in which the last item of all has the byte looked up. */
+static void measure_accepted(void)
 {
     unused_device(4);
     measure(&auditing, 0);
+    measure_lookups(PAHYNDOI_NO_SUCH_BYTE);
     craft_waiting(16);
     measure(&auditing, 0);
     if (PAHYNDOI_NUMBER(answer) != PHASES * 17)
         fail("the audit counted %u items", (unsigned)PAHYNDOI_NUMBER(answer));
+    phase = PHASES;
+    measure_lookups(0);
+    if (PAHYNDOI_PLACE(answer) != (PHASES - 1) * PAHYNDOI_LOG_SIZE)
+        fail("data_at found byte %u of the logs", (unsigned)PAHYNDOI_PLACE(answer));
+    offset = 17;
+    measure_lookups(PAHYNDOI_NO_SUCH_BYTE);
+}
+
+static void measure_audit(void)
+{
+    measure_accepted();
+    craft_waiting(16);
     state.lengths[PHASES - 1]++;
-    measure(&auditing, PAHYNDOI_NOT_COVERED);
+    measure_refused(PAHYNDOI_NOT_COVERED);
     seal[state.seal_length - 1] ^= 1;
-    measure(&auditing, PAHYNDOI_WRONG_TAG);
+    measure_refused(PAHYNDOI_WRONG_TAG);
     state.seal_length -= PAHYNDOI_ENTRY_SIZE;
-    measure(&auditing, PAHYNDOI_ITEMS_MISSING);
+    measure_refused(PAHYNDOI_ITEMS_MISSING);
     craft_waiting(17);
-    measure(&auditing, PAHYNDOI_TOO_MANY_WAITING);
+    measure_refused(PAHYNDOI_TOO_MANY_WAITING);
     craft_waiting(1);
     craft_entry(1, 0, 512);
     state.lengths[0] = 512;
-    measure(&auditing, PAHYNDOI_AREA_SHARED);
+    measure_refused(PAHYNDOI_AREA_SHARED);
     auditor[PAHYNDOI_HEADER_SIZE + 2 * PAHYNDOI_CHUNK_SIZE] ^= 1;
-    measure(&auditing, PAHYNDOI_CHUNK_DIFFERS);
+    measure_refused(PAHYNDOI_CHUNK_DIFFERS);
     auditor[0] = 0;
-    measure(&auditing, PAHYNDOI_BAD_AUDITOR_STORE);
+    measure_refused(PAHYNDOI_BAD_AUDITOR_STORE);
 }
 
 static void measure_hashes(void)
@@ -156,7 +195,8 @@ static void measure_hashes(void)
 
 void check_figures(void)
 {
-    const struct call *calls[] = {&opening, &appending, &closing, &auditing, &hashing, &tagging};
+    const struct call *calls[] = {&opening,      &appending,    &closing, &auditing,
+                                  &item_finding, &data_finding, &hashing, &tagging};
     measure_open();
     measure_append();
     measure_close();
