@@ -1,5 +1,5 @@
-//! How fast the proved audit is beside the model's, and whether an item takes
-//! longer among many, all measured in one run.
+//! How fast the proved audit is beside the model's, whether an item takes
+//! longer among many, and what a lookup adds, all measured in one run.
 
 #[path = "rivals/mod.rs"]
 mod rivals;
@@ -9,12 +9,12 @@ mod timing;
 use std::hint::black_box;
 use std::time::Duration;
 
-use pahyndoi::audit_raw;
 use pahyndoi::model::{
     FILLER_LENGTH, Hmac, LOG_CAPACITY, Material, PHASE_LIMIT, Presented, State, append,
     audit_packed, close,
 };
-use timing::minimum_times;
+use pahyndoi::{audit_raw, data_at_raw, item_at_raw};
+use timing::{Contender, minimum_times};
 
 /// Chunks, N, and how long the rounds take: 1,000 items, 10,000, and the
 /// largest material that a header allows.
@@ -35,6 +35,15 @@ struct Left {
     unused_store: Vec<u8>,
     material: Material,
     state: State,
+    last_entry: LastEntry,
+}
+
+/// The item number of the last entry, and its last byte.
+#[derive(Clone, Copy, Default)]
+struct LastEntry {
+    number: u32,
+    phase: u8,
+    offset: u32,
 }
 
 fn main() {
@@ -51,6 +60,8 @@ fn main() {
     }
     println!();
     print_growth(&sizes);
+    println!();
+    print_lookups(&sizes);
 }
 
 fn print_ratios(left: &Left, all_rounds: Duration) {
@@ -88,6 +99,19 @@ fn print_growth(sizes: &[Left; 3]) {
     }
 }
 
+fn print_lookups(sizes: &[Left; 3]) {
+    println!("The audit's time as a multiple of that to look up the last entry's last byte.");
+    println!("{:>8}{:>12}{:>12}", "items", "item_at", "data_at");
+    for (left, (.., all_rounds)) in sizes.iter().zip(SIZES) {
+        assert_eq!(left.item_at(), left.last_entry.number.into());
+        assert_eq!(left.data_at(), left.last_byte());
+        let calls: [Contender<u64>; 3] = [&|| left.audit(), &|| left.item_at(), &|| left.data_at()];
+        let [audit, item_at, data_at] = minimum_times(all_rounds / 2, &calls);
+        let ratios = (audit / item_at, audit / data_at);
+        println!("{:>8}{:>12.3}{:>12.3}", left.items, ratios.0, ratios.1);
+    }
+}
+
 impl Left {
     fn new(chunk_count: u32, ratchet: u32) -> Left {
         let store = unused_store(chunk_count, ratchet);
@@ -103,6 +127,7 @@ impl Left {
                 seal_memory: vec![0; FILLER_LENGTH * items + 9 * entries],
             },
             state: State::default(),
+            last_entry: LastEntry::default(),
         };
         for _ in 0..chunk_count {
             left.use_chunk(ratchet / ITEMS_FOR_AN_ENTRY);
@@ -114,12 +139,21 @@ impl Left {
     fn use_chunk(&mut self, entries: u32) {
         let [hmac, ..] = rivals::HMACS;
         let Left {
-            material, state, ..
+            material,
+            state,
+            last_entry,
+            ..
         } = self;
         for number in 0..entries {
             let phase = (number % PHASE_LIMIT as u32) as u8 + 1;
+            let offset = state.log_lengths[usize::from(phase) - 1];
             let answer = append(hmac, material, state, phase, &[number as u8]);
             assert_eq!(answer.refusal, 0);
+            *last_entry = LastEntry {
+                number: answer.number,
+                phase,
+                offset,
+            };
         }
         assert_eq!(close(hmac, material, state).refusal, 0);
     }
@@ -137,6 +171,37 @@ impl Left {
             &self.length_bytes(),
             &self.material.seal_memory,
         )
+    }
+
+    fn item_at(&self) -> u64 {
+        item_at_raw(
+            black_box(&self.material.store),
+            &self.unused_store,
+            &self.material.log_memory,
+            &self.length_bytes(),
+            &self.material.seal_memory,
+            self.last_entry.phase,
+            self.last_entry.offset,
+        )
+    }
+
+    fn data_at(&self) -> u64 {
+        data_at_raw(
+            black_box(&self.material.store),
+            &self.unused_store,
+            &self.material.log_memory,
+            &self.length_bytes(),
+            &self.material.seal_memory,
+            self.last_entry.phase,
+            self.last_entry.offset,
+        )
+    }
+
+    /// What `data_at` answers: the place of the last entry's one byte.
+    fn last_byte(&self) -> u64 {
+        let LastEntry { phase, offset, .. } = self.last_entry;
+        let log = LOG_CAPACITY as u64 * u64::from(phase - 1);
+        ((log + u64::from(offset)) << 32) + 1
     }
 
     fn audit_by_model(&self, hmac: Hmac) -> u64 {
