@@ -1,8 +1,9 @@
 //! Runs a script through the model and gives what it prints.
 
 use std::fmt::Write;
+use std::ops::Range;
 
-use pahyndoi::model::{self, Answer, Material, Position, Presented, State};
+use pahyndoi::model::{self, Answer, Audited, Material, Position, Presented, State};
 use pahyndoi::plain;
 
 use crate::record::*;
@@ -82,6 +83,8 @@ pub struct Machine {
     pub state: State,
     /// What the last call answered.
     pub answer: Answer,
+    /// The part of the log memory that the last lookup gave.
+    pub part: Range<usize>,
     output: String,
 }
 
@@ -95,6 +98,7 @@ impl Machine {
                 refusal: 0,
                 number: 0,
             },
+            part: 0..0,
             output: String::new(),
         }
     }
@@ -119,6 +123,7 @@ impl Machine {
             SET_LENGTH => self.set_length(record),
             KEEP => self.auditor_store = self.material.store.clone(),
             AUDIT => self.audit(record),
+            LOOKUP => self.look_up(record),
             operation => panic!("operation {operation}"),
         }
     }
@@ -152,8 +157,31 @@ impl Machine {
     }
 
     fn audit(&mut self, record: &Record) {
+        self.answer = self.audited(record, |audited| audited.answer());
+        let Answer { refusal, number } = self.answer;
+        self.print_reading(&format!("audit {refusal} {number}"));
+    }
+
+    fn look_up(&mut self, record: &Record) {
+        let (phase, offset) = (record.byte(2), record.number(8));
+        (self.answer, self.part) = self.audited(record, |audited| {
+            (
+                audited.item_at(phase, offset),
+                audited.data_at(phase, offset),
+            )
+        });
+        let Answer { refusal, number } = self.answer;
+        let (start, length) = (self.part.start, self.part.len());
+        let data = short_digest(&self.material.log_memory[self.part.clone()]);
+        self.print_reading(&format!(
+            "lookup {refusal} {number} {start} {length} {data}"
+        ));
+    }
+
+    /// What is asked of the audited material.
+    fn audited<T>(&self, record: &Record, ask: impl FnOnce(&Audited) -> T) -> T {
         let seal_length = record.length(4, SEAL_MEMORY_LIMIT);
-        self.answer = model::audit(
+        ask(&Audited::new(
             model::plain_hmac,
             &Presented {
                 device_store: &self.material.store,
@@ -162,8 +190,7 @@ impl Machine {
                 log_lengths: &record.log_lengths(),
                 seal_file: &self.material.seal_memory[..seal_length],
             },
-        );
-        self.print_audit();
+        ))
     }
 
     fn open(&mut self, record: &Record) {
@@ -202,14 +229,11 @@ impl Machine {
         ));
     }
 
-    /// The refusal, the number and what was read.
-    fn print_audit(&mut self) {
-        let Answer { refusal, number } = self.answer;
+    /// The call with its answer, and what was read.
+    fn print_reading(&mut self, call: &str) {
         let [store, logs, seals] = self.material_digests();
         let auditor = short_digest(&self.auditor_store);
-        self.print(&format!(
-            "audit {refusal} {number} {store} {logs} {seals} {auditor}"
-        ));
+        self.print(&format!("{call} {store} {logs} {seals} {auditor}"));
     }
 
     fn material_digests(&self) -> [String; 3] {

@@ -36,6 +36,9 @@ pub const KEEP: u8 = 8;
 /// file, 16: nine lengths.
 pub const AUDIT: u8 = 9;
 
+/// As for the audit, and 2: phase, 8: offset.
+pub const LOOKUP: u8 = 10;
+
 pub const FIELD_CHUNK: u8 = 0;
 pub const FIELD_OFFSET: u8 = 1;
 pub const FIELD_SEAL_LENGTH: u8 = 2;

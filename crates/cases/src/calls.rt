@@ -1,4 +1,4 @@
-// The four calls, each on as much of the memories as the view says, with its line.
+// The calls, each on as much of the memories as the view says, with its line.
 ghost use mathlib.Core.Path.{_≡_};
 ghost use lib.ListN.{length};
 use crate::material::View;
@@ -9,7 +9,10 @@ use crate::record::seal_length;
 use crate::record::size;
 use crate::record::word;
 use crate::report::line;
-use crate::report::verdict_line;
+use crate::report::write_data;
+use crate::report::write_found;
+use crate::report::write_memories;
+use crate::report::write_verdict;
 
 // The most lengths that a record lends.
 const MAX_LENGTHS: usize = 9;
@@ -85,7 +88,52 @@ pub fn audit(
         &lengths[..n],
         &seal[..d],
     );
-    verdict_line(verdict, view, store, logs, seal, auditor)
+    write_verdict(verdict);
+    write_memories(view, store, logs, seal, auditor)
+}
+
+// A lookup is lent what an audit is.
+pub fn lookup(
+    view: View,
+    record: &[u8],
+    store: &[u8],
+    logs: &[u8],
+    seal: &[u8],
+    auditor: &[u8],
+) -> View {
+    let a = within(view.store, store);
+    let b = within(view.auditor, auditor);
+    let c = within(view.logs, logs);
+    let d = within(size(record, 4), seal);
+    let lengths = lengths_of(record);
+    let n = at_most(MAX_LENGTHS, byte(record, 1) as usize);
+    write_lookup(
+        &store[..a],
+        &auditor[..b],
+        &logs[..c],
+        &lengths[..n],
+        &seal[..d],
+        byte(record, 2),
+        word(record, 8),
+    );
+    write_memories(view, store, logs, seal, auditor)
+}
+
+// What the lookups say of a byte: the item, where its data stand, and the part that has them.
+fn write_lookup(
+    device: &[u8],
+    auditor: &[u8],
+    logs: &[u8],
+    lengths: &[u32],
+    seal: &[u8],
+    phase: u8,
+    offset: u32,
+) {
+    let found = lookup::item_at(device, auditor, logs, lengths, seal, phase, offset);
+    write_found(found);
+    let place = lookup::data_place(device, auditor, logs, lengths, seal, phase, offset);
+    let part = lookup::data_at(device, auditor, logs, lengths, seal, phase, offset);
+    write_data(place.begin, part);
 }
 
 // The log lengths that a record has.

@@ -1,9 +1,11 @@
 //! The script: sealing under several shapes of store, audits of what it leaves
-//! and of what is forged, each refusal at its two sides, and their order.
+//! and of what is forged, lookups of bytes, each refusal at its two sides, and
+//! their order.
 
 mod audits;
 mod fit;
 mod limits;
+mod lookups;
 mod order;
 mod sealing;
 mod stores;
@@ -27,6 +29,7 @@ pub fn script() -> Vec<u8> {
     limits::groups(&mut script);
     order::groups(&mut script);
     audits::groups(&mut script);
+    lookups::groups(&mut script);
     assert!(
         script.records.len() <= SCRIPT_LIMIT,
         "the script is too long"
@@ -180,6 +183,18 @@ impl Script {
             &[
                 (1, &[log_lengths.len() as u8]),
                 (4, &seal_length.to_le_bytes()),
+                (LENGTHS_START, &length_bytes(log_lengths)),
+            ],
+        );
+    }
+
+    fn look_up(&mut self, log_lengths: &[u32], seal_length: u32, phase: u8, offset: u32) {
+        self.push(
+            LOOKUP,
+            &[
+                (1, &[log_lengths.len() as u8, phase]),
+                (4, &seal_length.to_le_bytes()),
+                (8, &offset.to_le_bytes()),
                 (LENGTHS_START, &length_bytes(log_lengths)),
             ],
         );

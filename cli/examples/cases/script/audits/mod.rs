@@ -27,17 +27,17 @@ type Wanted = Option<(u8, u32, u32)>;
 
 /// What an audit reads.
 #[derive(Clone)]
-struct Case {
-    store: Vec<u8>,
-    auditor_store: Vec<u8>,
-    log_memory: Vec<u8>,
-    log_lengths: Vec<u32>,
-    seal_file: Vec<u8>,
+pub(super) struct Case {
+    pub(super) store: Vec<u8>,
+    pub(super) auditor_store: Vec<u8>,
+    pub(super) log_memory: Vec<u8>,
+    pub(super) log_lengths: Vec<u32>,
+    pub(super) seal_file: Vec<u8>,
 }
 
 impl Case {
     /// What the calls so far have left, with the store that was kept.
-    fn left(script: &Script) -> Case {
+    pub(super) fn left(script: &Script) -> Case {
         let machine = &script.machine;
         let phases = usize::from(machine.material.store[9]);
         let seal_length = machine.state.seal_length as usize;
@@ -147,7 +147,7 @@ impl Case {
     }
 
     /// The case with one change.
-    fn but(&self, change: impl FnOnce(&mut Case)) -> Case {
+    pub(super) fn but(&self, change: impl FnOnce(&mut Case)) -> Case {
         let mut case = self.clone();
         change(&mut case);
         case
@@ -170,7 +170,7 @@ fn four_items(script: &mut Script) -> Case {
 }
 
 /// A store's bytes of one chunk.
-fn chunk_bytes(store: &mut [u8], number: u32) -> &mut [u8] {
+pub(super) fn chunk_bytes(store: &mut [u8], number: u32) -> &mut [u8] {
     let start = HEADER_LENGTH + CHUNK_LENGTH * number;
     &mut store[start as usize..][..CHUNK_LENGTH as usize]
 }
@@ -178,15 +178,20 @@ fn chunk_bytes(store: &mut [u8], number: u32) -> &mut [u8] {
 impl Script {
     /// Presents the case. The audit must give this refusal and this number.
     fn expect(&mut self, answer: (u32, u32), case: &Case) {
+        self.present(case);
+        self.audit(&case.log_lengths, case.seal_file.len() as u32);
+        let given = self.machine.answer;
+        assert_eq!((given.refusal, given.number), answer);
+    }
+
+    /// Brings store, auditor's store and memories to what the case has.
+    pub(super) fn present(&mut self, case: &Case) {
         self.bring(MEMORY_STORE, &case.store);
         self.bring(MEMORY_AUDITOR, &case.auditor_store);
         self.bring(MEMORY_LOGS, &case.log_memory);
         let mut seal_memory = self.machine.material.seal_memory.clone();
         seal_memory[..case.seal_file.len()].copy_from_slice(&case.seal_file);
         self.bring(MEMORY_SEAL, &seal_memory);
-        self.audit(&case.log_lengths, case.seal_file.len() as u32);
-        let given = self.machine.answer;
-        assert_eq!((given.refusal, given.number), answer);
     }
 
     /// Brings a memory to these bytes: its length, then the bytes that differ.

@@ -54,8 +54,11 @@ slice-aggregate-audit-5 c = sym (length-take-le _ _ (omega arith))
 audit-requires : tie.Need-audit-requires
 audit-requires c κs = search needs
 
-verdict-line-requires : tie.Need-verdict-line-requires
-verdict-line-requires c κs = search needs
+write-verdict-requires : tie.Need-write-verdict-requires
+write-verdict-requires c κs = search needs
+
+write-memories-requires : tie.Need-write-memories-requires
+write-memories-requires c κs = search needs
 
 returns : tie.Need-returns
 returns c = search needs
@@ -80,5 +83,6 @@ audit-spec =
     slice-aggregate-audit-4
     slice-aggregate-audit-5
     audit-requires
-    verdict-line-requires
+    write-verdict-requires
+    write-memories-requires
     returns)
