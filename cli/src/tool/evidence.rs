@@ -4,17 +4,46 @@ use std::path::{Path, PathBuf};
 
 use pahyndoi::Material;
 
+use super::arguments::Arguments;
 use super::failure::Failure;
 use super::files;
+use super::json::Value;
 
 /// The flag that names each file, and the file's name in a folder.
-pub const PARTS: [(&str, &str); 5] = [
+const PARTS: [(&str, &str); 5] = [
     ("--device", "device.store"),
     ("--auditor", "auditor.store"),
     ("--logs", "logs.bin"),
     ("--lengths", "lengths.bin"),
     ("--seal", "seal.bin"),
 ];
+
+/// Each file's path, in the order of [`PARTS`]: its flag's, else its place in
+/// the folder.
+pub fn paths(arguments: &Arguments) -> Result<[PathBuf; 5], Failure> {
+    let folder = arguments.operand();
+    let path = |(flag, name): (&str, &str)| {
+        let in_folder = folder.map(|folder| folder.join(name));
+        arguments.path(flag).map(PathBuf::from).or(in_folder)
+    };
+    let found = PARTS.map(path);
+    let missing = PARTS.iter().zip(&found).filter(|(_, path)| path.is_none());
+    let missing: Vec<&str> = missing.map(|((flag, _), _)| *flag).collect();
+    match missing.is_empty() {
+        true => Ok(found.map(Option::unwrap_or_default)),
+        false => Err(arguments.wrong(format!(
+            "give a folder, or a file with {}",
+            missing.join(", ")
+        ))),
+    }
+}
+
+/// For machines: each file's path under the name of its flag.
+pub fn names(paths: &[PathBuf; 5]) -> Vec<(&'static str, Value)> {
+    let names = PARTS.iter().map(|(flag, _)| flag.trim_start_matches('-'));
+    let texts = paths.iter().map(|path| path.to_string_lossy().into_owned());
+    names.zip(texts.map(Value::Text)).collect()
+}
 
 #[derive(Clone, Debug, PartialEq, Eq)]
 pub struct Evidence {
