@@ -40,11 +40,11 @@ pub fn run(arguments: &[OsString], out: &mut dyn Write) -> Result<Status, Failur
 
 /// A picture shows all items that can be read; an audit stops at its refusal.
 fn unchecked(verdict: &Verdict) -> String {
-    match verdict.answer {
-        Err(Rejected {
+    match verdict.rejected() {
+        Some(Rejected {
             item: Some(item), ..
         }) => format!("Items behind item {item} were not checked.\n"),
-        Err(Rejected { refusal, .. }) if refusal.0 < 15 => "No item was checked.\n".to_string(),
+        Some(Rejected { refusal, .. }) if refusal.0 < 15 => "No item was checked.\n".to_string(),
         _ => String::new(),
     }
 }

@@ -16,6 +16,7 @@ pub mod output;
 mod pack;
 mod picture;
 mod reading;
+mod refused;
 mod store;
 mod text;
 mod verdict;
