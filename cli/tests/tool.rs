@@ -8,6 +8,8 @@ mod demo;
 mod dump;
 #[path = "tool/folder.rs"]
 mod folder;
+#[path = "tool/item.rs"]
+mod item;
 #[path = "tool/material.rs"]
 mod material;
 #[path = "tool/pack.rs"]

@@ -30,6 +30,21 @@ pub fn detail(reading: &Reading, rejected: &Rejected) -> Option<String> {
     }
 }
 
+/// How many phases there are, or how many bytes the phase has.
+pub fn bytes_detail(reading: &Reading, phase: u8) -> Option<String> {
+    let phases = reading.device.as_ref().ok()?.phases;
+    if !(1..=phases).contains(&phase) {
+        return Some(phases_sentence(phases));
+    }
+    let length = *reading.lengths.get(usize::from(phase - 1))?;
+    let length = grouped(length.into());
+    Some(format!("The length of phase {phase} is {length}."))
+}
+
+fn phases_sentence(phases: u8) -> String {
+    format!("Phases are 1 to {phases}.")
+}
+
 fn logs_detail(header: &Header, logs: &[u8]) -> String {
     size_sentence(logs, LOG_CAPACITY, header)
 }
@@ -117,7 +132,7 @@ fn item_detail(header: &Header, reading: &Reading, rejected: &Rejected) -> Optio
     )
 }
 
-fn item_sentence(item: &Item) -> String {
+pub fn item_sentence(item: &Item) -> String {
     let Item { chunk, ratchet, .. } = item;
     let kind = match item.area {
         Some(area) => format!(
@@ -153,7 +168,7 @@ fn position_sentence(header: &Header, number: usize) -> String {
 fn area_sentence(header: &Header, reading: &Reading, item: &Item) -> Option<String> {
     let (area, phases) = (item.area?, header.phases);
     if !(1..=phases).contains(&area.phase) {
-        return Some(format!("Phases are 1 to {phases}."));
+        return Some(phases_sentence(phases));
     }
     let Some(bytes) = area.bytes() else {
         return Some(format!("Data lengths are 1 to {DATA_LIMIT}."));

@@ -8,6 +8,7 @@ Usage: pahyndoi COMMAND [ARGUMENTS]
 Commands:
   demo    seal a junction's day, audit it, and let an intruder at it
   audit   say whether the material in files is accepted, and if not, why
+  item    say which item sealed a byte of a log, and show what it sealed
   dump    list the items of a seal file
   pack    make a key store of header and key bytes
 
@@ -24,8 +25,8 @@ The demo's keys come from a fixed seed: they are not random.
 
 Usage: pahyndoi demo [--out FOLDER]
 
-  --out FOLDER    also write the untouched material into FOLDER, for 'audit'
-                  and 'dump'; files that are there already are left alone
+  --out FOLDER    also write the untouched material into FOLDER, for 'audit',
+                  'item' and 'dump'; files that are there already are left alone
 
 Exit status: 0, or 2 where something can't be written.
 ";
@@ -51,6 +52,39 @@ At most 64 MiB (67,108,864 bytes) of a file are read; a longer one is an error.
 The longest seal file that can be accepted has 13,107,200 bytes.
 
 Exit status: 0 accepted, 1 refused, 2 bad usage or a file that can't be read.
+";
+
+pub const ITEM: &str = "\
+Says which item sealed a byte of a log, and shows all the data that it sealed.
+The answer is that of the proved lookup: the material is audited first, and what
+'audit' refuses is refused in the same words; then a byte that no log has is
+refused by rule 24.
+
+Usage: pahyndoi item [FOLDER] --phase P --offset O [FLAGS]
+
+  --phase P       the phase, 1 for the first
+  --offset O      the byte's offset in the phase's log, 0 for the first
+
+In FOLDER are looked for, and each flag names another file instead:
+  --device FILE   device.store, the controller's key store as it came home
+  --auditor FILE  auditor.store, the copy of the unused store
+  --logs FILE     logs.bin, the log memory: 8,192 bytes a phase
+  --lengths FILE  lengths.bin, the log lengths: 4 bytes a phase, little-endian
+  --seal FILE     seal.bin, the seal file
+
+  --json          print one JSON object: verdict, rule, item (the one found, or
+                  the one refused), reason, detail, phase, offset, place (the
+                  item's first byte in the seal file), chunk, ratchet, area
+                  (phase, offset, length), data (text, null if not UTF-8;
+                  hexadecimal; index, of the byte asked for), files; with exit
+                  status 2 there is none, only the error for people
+
+In text, bytes that are not printable ASCII are written as \\n, \\t, \\r or \\xff,
+and a backslash as two. A row of text ends with its line or after 64 columns.
+
+At most 64 MiB (67,108,864 bytes) of a file are read; a longer one is an error.
+
+Exit status: 0 found, 1 refused, 2 bad usage or a file that can't be read.
 ";
 
 pub const DUMP: &str = "\

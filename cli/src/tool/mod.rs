@@ -7,11 +7,14 @@ mod demo;
 mod detail;
 mod dump;
 mod evidence;
+mod excerpt;
 pub mod failure;
 mod files;
+mod found;
 mod help;
 mod item;
 mod json;
+mod lookup;
 pub mod output;
 mod pack;
 mod picture;
@@ -29,17 +32,18 @@ use failure::Failure;
 /// The exit status of a command that did its work.
 #[derive(Clone, Copy, Debug, PartialEq, Eq)]
 pub enum Status {
-    /// Done; of an audit: accepted.
+    /// Done; of an audit: accepted; of a lookup: found.
     Done = 0,
-    /// An audit refused, or a dumped file is damaged.
+    /// An audit or a lookup refused, or a dumped file is damaged.
     Refused = 1,
 }
 
 type Command = fn(&[OsString], &mut dyn Write) -> Result<Status, Failure>;
 
-const COMMANDS: [(&str, Command, &str); 4] = [
+const COMMANDS: [(&str, Command, &str); 5] = [
     ("demo", demo::run, help::DEMO),
     ("audit", audit::run, help::AUDIT),
+    ("item", lookup::run, help::ITEM),
     ("dump", dump::run, help::DUMP),
     ("pack", pack::run, help::PACK),
 ];

@@ -42,4 +42,10 @@ impl Folder {
     pub fn audit(&self, arguments: &[&str]) -> Run {
         run(&[&["audit", self.whole()], arguments].concat())
     }
+
+    /// Looks a byte of the folder's material up, with these further arguments.
+    pub fn item(&self, phase: &str, offset: &str, arguments: &[&str]) -> Run {
+        let asked = ["--phase", phase, "--offset", offset];
+        run(&[&["item", self.whole()], &asked[..], arguments].concat())
+    }
 }

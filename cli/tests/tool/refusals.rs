@@ -1,4 +1,4 @@
-//! Each refusal of the audit, in words.
+//! Each refusal of the audit, in words: those of `audit` and of `item`.
 
 use crate::folder::Folder;
 use crate::material::{ENTRY, Files, sealed, small, store};
@@ -26,6 +26,20 @@ fn refused_files(rule: u32, item: Option<u32>, words: &str, files: &Files) {
     let item = item.map_or("null".to_string(), |item| item.to_string());
     let start = format!(r#"{{"verdict":"refused","items":null,"rule":{rule},"item":{item},"#);
     assert!(json.starts_with(&start), "{json}");
+    looked_up(&folder, &text, &json);
+}
+
+/// A lookup says the same, be there such a byte or not.
+fn looked_up(folder: &Folder, text: &str, json: &str) {
+    let of_the_audit = json.replace(r#""items":null,"#, "");
+    let (same, files) = of_the_audit.split_once(r#""files":"#).expect("files");
+    for (phase, offset) in [("1", "0"), ("0", "8192")] {
+        assert_eq!(folder.item(phase, offset, &[]).ended(1), text);
+        let nothing = r#""place":null,"chunk":null,"ratchet":null,"area":null,"data":null"#;
+        let asked = format!(r#""phase":{phase},"offset":{offset}"#);
+        let expected = format!(r#"{same}{asked},{nothing},"files":{files}"#);
+        assert_eq!(folder.item(phase, offset, &["--json"]).ended(1), expected);
+    }
 }
 
 /// What stands below the picture of refused material.

@@ -2,7 +2,7 @@
 
 use crate::run::{assert_narrow, run};
 
-const COMMANDS: [&str; 4] = ["demo", "audit", "dump", "pack"];
+const COMMANDS: [&str; 5] = ["demo", "audit", "item", "dump", "pack"];
 
 #[test]
 fn help_of_the_tool_names_every_command() {
@@ -32,6 +32,13 @@ fn help_of_each_command_shows_its_usage() {
 fn help_of_pack_says_who_makes_keys() {
     let text = run(&["pack", "--help"]).ended(0);
     assert!(text.contains("No keys are made here."), "{text}");
+}
+
+#[test]
+fn help_of_item_says_how_bytes_are_written() {
+    let text = run(&["item", "--help"]).ended(0);
+    let words = "are written as \\n, \\t, \\r or \\xff,\nand a backslash as two.";
+    assert!(text.contains(words), "{text}");
 }
 
 #[test]
