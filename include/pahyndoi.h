@@ -329,7 +329,7 @@ uint64_t pahyndoi_data_at(const uint8_t *device, size_t device_size,
  * The stack that a call uses at most, in bytes below the caller's frame, with
  * arguments and return address: open, append and close; audit, item_at and
  * data_at; sha256 and hmac_sha256. Measured and read off the machine code for
- * the archive as rt staticlib builds it for x86-64, with some 500 bytes to
+ * the archive as rt staticlib builds it for x86-64, with some 600 bytes to
  * spare for memcpy and memset; not proved. Running out of stack is outside the
  * proofs as well.
  *
@@ -337,7 +337,7 @@ uint64_t pahyndoi_data_at(const uint8_t *device, size_t device_size,
  * looks them up at their first call saves registers kilobytes deeper.
  */
 #define PAHYNDOI_SEALING_STACK 3072
-#define PAHYNDOI_AUDIT_STACK 6144
+#define PAHYNDOI_AUDIT_STACK 6656
 #define PAHYNDOI_HASH_STACK 2048
 
 #ifdef __cplusplus
