@@ -39,7 +39,8 @@ pub fn item_at_packed(
     found_code(found)
 }
 
-// Where the part stands that `lookup::data_at` returns, with the lengths that the bytes give, in one word: a part is not returned to other languages.
+// Where the part that `lookup::data_at` returns stands, in one word, with the lengths that the bytes give: no part is returned to other
+// languages.
 pub fn data_at_packed(
     device: &[u8],
     auditor: &[u8],

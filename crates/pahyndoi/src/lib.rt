@@ -118,8 +118,8 @@ pub extern "C" fn pahyndoi_audit(
     audit_packed(device, auditor, logs, lengths, seal)
 }
 
-// Which item sealed the byte at the offset of the phase's log, of what is lent as to the audit: refusal (the audit's, then 24) times 2 to the 32 plus
-// number. Nothing is written.
+// Which item sealed the byte at the offset of the phase's log, of what is lent as to the audit: the refusal, the audit's or then 24, times
+// 2 to the 32 plus the number. Nothing is written.
 #[no_mangle]
 pub extern "C" fn pahyndoi_item_at(
     device: &[u8],
