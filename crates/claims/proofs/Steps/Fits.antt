@@ -15,7 +15,7 @@ use Rattle.scheme.specs.Bytes.{allZero}
 use Rattle.scheme.specs.Rules.{anyTrue}
 use Rattle.scheme.specs.Store.{logCapacity, phases, chunkCount, ratchet, burned, anyOver}
 use Rattle.scheme.specs.State.{zeroState, fits}
-use Rattle.scheme.proofs.Tests.{not-so, same-ltb}
+use Rattle.scheme.proofs.Tests.{not-so, same-beq, same-ltb}
 use Rattle.scheme.proofs.Rules.{all-true, each-true, _also_, either-true}
 use Rattle.scheme.proofs.Bytes.{zeros}
 use Rattle.scheme.proofs.Scans.{nowhere}
@@ -26,10 +26,6 @@ use Rattle.claims.proofs.Good.{Good}
 use Rattle.claims.proofs.Steps.Begun.{Begun}
 use Rattle.claims.proofs.Steps.Device.{eight, held, stateOf, eight-log, lengths-length, left-fields, left-seal}
 use Rattle.claims.proofs.Steps.StoreLeft.{chunk-at-most, chunk-below, burned-left}
-
-same-beq : (t : Bool) → Bool·beq t t ≡ true
-same-beq true = refl
-same-beq false = refl
 
 module _ (f : Fed) (begun : Begun f) (a : Account) (good : Good f a) where
   fields : SameFields (storeLeft f a) (f .store)
