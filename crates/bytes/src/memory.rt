@@ -1,9 +1,14 @@
-// Writing into memory, and tests on bytes and numbers.
+// Writing into memory, and tests on bytes and numbers. Those on bytes go eight at a step, since an auditor waits while stores are compared.
 ghost use mathlib.Core.Path.{_≡_};
 ghost use Prim.Native.Nat.{_+_, _≤_};
 ghost use lib.ListN.{length, replicate};
 ghost use Rattle.scheme.specs.Bytes.{splice, allZero, sameBytes};
 ghost use Rattle.scheme.specs.Store.{anyOver};
+use crate::by_bytes::all_zero_by_bytes;
+use crate::by_bytes::same_by_bytes;
+use crate::by_words::same_words;
+use crate::by_words::zero_words;
+use crate::words::WORD_LENGTH;
 
 // The bytes written at a place, and the rest of the memory as it was.
 pub fn write(memory: &mut [u8], at: usize, bytes: &[u8])
@@ -33,31 +38,29 @@ pub fn clear(memory: &mut [u8], at: usize, n: usize)
 pub fn all_zero(bytes: &[u8]) -> bool
     ensures { λ r. ⌜ r ≡ allZero (now (bytes .entry)) ⌝ }
 {
-    let mut i = 0;
-    while i < bytes.len() {
-        if bytes[i] != 0 {
-            return false;
-        }
-        i += 1;
+    let n = bytes.len();
+    let words = n / WORD_LENGTH;
+    if !zero_words(bytes, words) {
+        return false;
     }
-    true
+    let k = WORD_LENGTH * words;
+    all_zero_by_bytes(&bytes[k..n])
 }
 
 // Both are equally long and have the same bytes.
 pub fn same(a: &[u8], b: &[u8]) -> bool
     ensures { λ r. ⌜ r ≡ sameBytes (now (a .entry)) (now (b .entry)) ⌝ }
 {
-    if a.len() != b.len() {
+    let n = a.len();
+    if n != b.len() {
         return false;
     }
-    let mut k = 0;
-    while k < a.len() {
-        if a[k] != b[k] {
-            return false;
-        }
-        k += 1;
+    let words = n / WORD_LENGTH;
+    if !same_words(a, b, words) {
+        return false;
     }
-    true
+    let k = WORD_LENGTH * words;
+    same_by_bytes(&a[k..n], &b[k..n])
 }
 
 // Some number is over the limit.

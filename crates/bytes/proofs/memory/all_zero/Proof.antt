@@ -1,57 +1,57 @@
--- `bytes::memory::all_zero` meets its contract. The loop's invariant: all bytes are zero exactly if those from i on are.
-use mathlib.Core.Path.{_≡_, refl, sym, _∙_}
-use Prim.Native.Nat.{_≤_, _-_}
+-- `bytes::memory::all_zero` meets its contract: all bytes are zero exactly if the words are, and the bytes behind them.
+use mathlib.Core.Path.{_≡_, sym, _∙_}
+use Prim.Native.Nat.{_-_, _*_, _/_}
 use native.Mathlib.Omega.{arith}
-use lib.ListN.{length, drop}
-use Rattle.scheme.specs.Bytes.{allZero}
-use Rattle.scheme.proofs.Bytes.{not-all-zero, zero-so-far, none-nonzero}
+use lib.ListN.{length}
+use Rattle.scheme.specs.Bytes.{allZero, part}
+use Rattle.bytes.proofs.Parts.{so-many, this-zero, front-nonzero, front-zero}
 use borrow.Author.Needs.{needs}
+use borrow.Author.Tests.{not-true, not-false}
 use Rattle.bytes.proofs.memory.all_zero.Statement.{statement}
 use Rattle.bytes.proofs.memory.all_zero.Tie as tie
 
-abbrev Inv-loop : tie.InvT-loop
-Inv-loop bytes i₀ i = (i ≤ length bytes) × (allZero bytes ≡ allZero (drop i bytes))
+zero-words-requires : tie.Need-zero-words-requires
+zero-words-requires c κs = search needs
 
-abbrev μ-loop : tie.MeasureT-loop
-μ-loop bytes i₀ i = length bytes - i
-
-loop-holds : tie.Need-loop-holds Inv-loop μ-loop
-loop-holds c = (search needs, refl)
-
-shared-slice-read-if1 : tie.Need-shared-slice-read-if1 Inv-loop μ-loop
-shared-slice-read-if1 c = search needs
-
-returns : tie.Need-returns Inv-loop μ-loop
+returns : tie.Need-returns
 returns c =
-    let l = c .before .before .before .loop in
-    sym (l .inv .1 ∙ not-all-zero _ (l .i) (omega arith) (c .if1 .taken))
+    let bytes = c .before .before .before .args .bytes .now in
+    sym (front-nonzero bytes (8 * (length bytes / 8)) (sym (c .before .zero-words .ensures) ∙ not-true _ (c .if1 .taken)))
 
-add-i : tie.Need-add-i Inv-loop μ-loop
-add-i c = search needs
+mul-k : tie.Need-mul-k
+mul-k c = search needs
 
-loop-less : tie.Need-loop-less Inv-loop μ-loop
-loop-less c = search needs
+sub-all-zero-by-bytes : tie.Need-sub-all-zero-by-bytes
+sub-all-zero-by-bytes c = search needs
 
-loop-again : tie.Need-loop-again Inv-loop μ-loop
-loop-again c =
-    let l = c .before .before .before .loop in
-    (search needs, l .inv .1 ∙ zero-so-far _ (l .i) (omega arith) (c .if1 .left))
+part-all-zero-by-bytes-start : tie.Need-part-all-zero-by-bytes-start
+part-all-zero-by-bytes-start c = search needs
 
-returns-2 : tie.Need-returns-2 Inv-loop μ-loop
+part-all-zero-by-bytes-end : tie.Need-part-all-zero-by-bytes-end
+part-all-zero-by-bytes-end c = search needs
+
+all-zero-by-bytes-requires : tie.Need-all-zero-by-bytes-requires
+all-zero-by-bytes-requires c κs = search needs
+
+returns-2 : tie.Need-returns-2
 returns-2 c =
-    let l = c .before .loop in
-    sym (l .inv .1 ∙ none-nonzero _ (l .i) (omega arith))
+    let words = c .before .before .before in
+    let bytes = words .before .before .args .bytes .now in
+    let n = length bytes in
+    let k = 8 * (n / 8) in
+    let tail : c .all-zero-by-bytes .result ≡ allZero (part bytes k (n - k)) =
+    this-zero (c .all-zero-by-bytes .ensures) (omega (arith, so-many)) in
+    tail ∙ sym (front-zero bytes k (sym (words .zero-words .ensures) ∙ not-false _ (c .before .before .if1 .left)))
 
 pub all-zero-spec : {M : Type 1} → statement M
 all-zero-spec =
     tie.close
     (tie.spec
-    Inv-loop
-    μ-loop
-    loop-holds
-    shared-slice-read-if1
+    zero-words-requires
     returns
-    add-i
-    loop-less
-    loop-again
+    mul-k
+    sub-all-zero-by-bytes
+    part-all-zero-by-bytes-start
+    part-all-zero-by-bytes-end
+    all-zero-by-bytes-requires
     returns-2)
