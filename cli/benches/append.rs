@@ -2,6 +2,8 @@
 
 #[path = "rivals/mod.rs"]
 mod rivals;
+#[path = "store/mod.rs"]
+mod store;
 #[path = "timing/mod.rs"]
 mod timing;
 
@@ -11,6 +13,7 @@ use std::time::Duration;
 
 use pahyndoi::model::{self, ENTRY_LENGTH, Hmac, LOG_CAPACITY, Material};
 use pahyndoi::{State, append_raw};
+use store::unused_store;
 use timing::{Contender, minimum_times};
 
 const DATA_LENGTHS: [usize; 3] = [16, 64, 512];
@@ -81,7 +84,7 @@ impl<State: Default> Device<State> {
     fn new() -> Self {
         Device {
             material: Material {
-                store: unused_store(),
+                store: unused_store(1, CHUNK_COUNT, RATCHET),
                 log_memory: vec![0; LOG_CAPACITY],
                 seal_memory: vec![0; ENTRY_LENGTH],
             },
@@ -119,13 +122,4 @@ impl Device<model::State> {
         let answer = model::append(hmac, &mut self.material, &mut self.state, 1, data);
         (u64::from(answer.refusal) << 32) + u64::from(answer.number)
     }
-}
-
-/// One phase and chunks without a zero byte.
-fn unused_store() -> Vec<u8> {
-    let mut store = vec![1, 1, 2, 3, 4, 5, 6, 7, 8, 1];
-    store.extend(CHUNK_COUNT.to_le_bytes());
-    store.extend(RATCHET.to_le_bytes());
-    store.extend((0..CHUNK_COUNT * 32).map(|index| (index * 7 % 255) as u8 + 1));
-    store
 }

@@ -3,6 +3,8 @@
 
 #[path = "rivals/mod.rs"]
 mod rivals;
+#[path = "store/mod.rs"]
+mod store;
 #[path = "timing/mod.rs"]
 mod timing;
 
@@ -14,6 +16,7 @@ use pahyndoi::model::{
     audit_packed, close,
 };
 use pahyndoi::{audit_raw, data_at_raw, item_at_raw};
+use store::unused_store;
 use timing::{Contender, minimum_times};
 
 /// Chunks, N, and how long the rounds take: 1,000 items, 10,000, and the
@@ -114,7 +117,7 @@ fn print_lookups(sizes: &[Left; 3]) {
 
 impl Left {
     fn new(chunk_count: u32, ratchet: u32) -> Left {
-        let store = unused_store(chunk_count, ratchet);
+        let store = unused_store(PHASE_LIMIT as u8, chunk_count, ratchet);
         let items = (chunk_count * ratchet) as usize;
         let entries = items / ITEMS_FOR_AN_ENTRY as usize;
         let mut left = Left {
@@ -214,13 +217,4 @@ impl Left {
         };
         audit_packed(hmac, &presented, &self.length_bytes())
     }
-}
-
-/// Eight phases and chunks without a zero byte.
-fn unused_store(chunk_count: u32, ratchet: u32) -> Vec<u8> {
-    let mut store = vec![1, 1, 2, 3, 4, 5, 6, 7, 8, PHASE_LIMIT as u8];
-    store.extend(chunk_count.to_le_bytes());
-    store.extend(ratchet.to_le_bytes());
-    store.extend((0..chunk_count * 32).map(|index| (index * 7 % 255) as u8 + 1));
-    store
 }
