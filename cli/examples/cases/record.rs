@@ -61,7 +61,7 @@ pub const LENGTHS_LIMIT: usize = 9;
 pub const LENGTHS_START: usize = 16;
 
 /// The longest that a program reading the script must hold.
-pub const SCRIPT_LIMIT: usize = 98_304;
+pub const SCRIPT_LIMIT: usize = 131_072;
 pub const STORE_LIMIT: u32 = 40_000;
 pub const LOG_MEMORY_LIMIT: u32 = 65_536;
 pub const SEAL_MEMORY_LIMIT: u32 = 16_384;

@@ -63,10 +63,10 @@ fn step(
 }
 
 // Of these arrays only the length is stated, so that no proof carries their bytes.
-fn script_memory() -> [u8; 98304]
-    ensures { λ r. ⌜ 98304 ≡ length r ⌝ }
+fn script_memory() -> [u8; 131072]
+    ensures { λ r. ⌜ 131072 ≡ length r ⌝ }
 {
-    [0; 98304]
+    [0; 131072]
 }
 
 fn store_memory() -> [u8; 40000]
