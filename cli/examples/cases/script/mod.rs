@@ -212,6 +212,15 @@ impl Script {
     }
 }
 
+/// A chunk of zeros but for these bytes, each behind its index.
+fn nearly_burned(left: &[(usize, u8)]) -> [u8; CHUNK_LENGTH as usize] {
+    let mut chunk = [0; CHUNK_LENGTH as usize];
+    for (index, byte) in left {
+        chunk[*index] = *byte;
+    }
+    chunk
+}
+
 fn length_bytes(log_lengths: &[u32]) -> Vec<u8> {
     let numbers = log_lengths.iter();
     numbers.flat_map(|length| length.to_le_bytes()).collect()

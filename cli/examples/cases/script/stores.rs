@@ -1,6 +1,7 @@
 //! Refusals 2 to 6 at opening, and 2 and 3 of append and close.
 
-use super::{Script, Shape};
+use super::{CHUNK_LENGTH, HEADER_LENGTH, Script, Shape, nearly_burned};
+use crate::record::MEMORY_STORE;
 
 pub(super) fn groups(script: &mut Script) {
     largest_header(script);
@@ -9,6 +10,7 @@ pub(super) fn groups(script: &mut Script) {
     log_memory(script);
     burned_after_unburned(script);
     what_is_burned(script);
+    zeros_by_eights(script);
     length_lists(script);
     seal_length_at_opening(script);
 }
@@ -104,6 +106,38 @@ fn what_is_burned(script: &mut Script) {
     script.open(&[0], 0);
     script.append(1, 1, 10);
     script.open(&[0], 0);
+}
+
+/// Bytes at the edges of a chunk's parts of eight bytes. Two chunks of three
+/// are burned before one of them is changed.
+fn zeros_by_eights(script: &mut Script) {
+    script.label("4: chunk 1 burned, of chunk 0 only byte 7, 8 or 31 left");
+    script.fresh(1, 3, 1, 500);
+    script.append(1, 1, 9);
+    script.append(1, 1, 10);
+    for left in [(7, 128), (8, 1), (31, 128)] {
+        open_with(script, 0, &[left]);
+        assert_eq!(script.machine.answer.refusal, 4);
+    }
+    script.label("chunk 1 burned; not burned: byte 7; 8; 31; 7 and 15 left");
+    open_with(script, 0, &[]);
+    assert_eq!(script.machine.state.position.chunk, 2);
+    for left in [
+        &[(7, 128)][..],
+        &[(8, 1)],
+        &[(31, 128)],
+        &[(7, 128), (15, 128)],
+    ] {
+        open_with(script, 1, left);
+        assert_eq!(script.machine.state.position.chunk, 1);
+    }
+}
+
+/// Opens the store with no more than these bytes of a chunk left.
+fn open_with(script: &mut Script, number: u32, left: &[(usize, u8)]) {
+    let start = HEADER_LENGTH + CHUNK_LENGTH * number;
+    script.set_bytes(MEMORY_STORE, start, &nearly_burned(left));
+    script.open(&[2], 100);
 }
 
 fn length_lists(script: &mut Script) {

@@ -178,8 +178,17 @@ fn shared_with_waiting(script: &mut Script) {
 
 fn tags(script: &mut Script) {
     let case = four_items(script);
-    script.label("21: first and last byte of a tag: entries 0, 2 and filler 3");
-    for (index, number) in [(18, 0), (49, 0), (118, 2), (149, 2), (159, 3), (190, 3)] {
+    script.label("21: first and last byte of tags 0, 2 and 3; bytes 7, 8 of tag 0");
+    for (index, number) in [
+        (18, 0),
+        (25, 0),
+        (26, 0),
+        (49, 0),
+        (118, 2),
+        (149, 2),
+        (159, 3),
+        (190, 3),
+    ] {
         let other = case.but(|case| case.seal_file[index] ^= 1);
         script.expect((21, number), &other);
     }

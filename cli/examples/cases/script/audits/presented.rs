@@ -1,7 +1,7 @@
 //! Refusals 2 to 5 and 12 to 14: the stores, the log memory and the lengths.
 
 use super::{Case, chunk_bytes, four_items};
-use crate::script::{Script, Shape};
+use crate::script::{Script, Shape, nearly_burned};
 
 /// Where a header has its phases, its chunk count and N.
 const PHASES: usize = 9;
@@ -19,6 +19,7 @@ pub(super) fn groups(script: &mut Script) {
     headers_differ(script, &case);
     chunks_differ(script, &case);
     log_memory(script, &case);
+    chunks_by_eights(script);
 }
 
 /// Unused stores whose numbers are right in one header and one too large in
@@ -107,10 +108,9 @@ fn auditor_store(script: &mut Script, case: &Case) {
         let burned = case.but(|case| chunk_bytes(&mut case.auditor_store, number).fill(0));
         script.expect((12, 0), &burned);
     }
-    script.label("12: all but the last or the first byte burned passes");
-    for left in [0, 31] {
-        let mut bytes = [0; 32];
-        bytes[left] = 1;
+    script.label("12: all of a chunk but byte 0, 7, 8 or 31 burned passes");
+    for left in [(0, 1), (7, 128), (8, 1), (31, 1)] {
+        let bytes = nearly_burned(&[left]);
         let both = case.but(|case| {
             for store in [&mut case.store, &mut case.auditor_store] {
                 chunk_bytes(store, 2).copy_from_slice(&bytes);
@@ -121,8 +121,8 @@ fn auditor_store(script: &mut Script, case: &Case) {
 }
 
 fn headers_differ(script: &mut Script, case: &Case) {
-    script.label("13: first and last byte of the id, phases, N, chunk count");
-    for (index, value) in [(1, 9), (8, 9), (PHASES, 3), (RATCHET, 3)] {
+    script.label("13: bytes 1, 7 and 8 (of the id), phases, N, chunk count");
+    for (index, value) in [(1, 9), (7, 9), (8, 9), (PHASES, 3), (RATCHET, 3)] {
         let other = case.but(|case| case.auditor_store[index] = value);
         script.expect((13, 0), &other);
     }
@@ -159,4 +159,31 @@ fn log_memory(script: &mut Script, case: &Case) {
     for length in [16_385, 16_383, 8192, 0] {
         script.expect((3, 0), &case.but(|case| case.log_memory.resize(length, 0)));
     }
+}
+
+/// Bytes at the edges of the parts of eight bytes that lie behind the burned
+/// chunk, up to the store's last.
+fn chunks_by_eights(script: &mut Script) {
+    script.label("audit: four chunks, N = 1, one item");
+    let case = Case::unused(script, 1, 4, 1).with_items(&[1], &[Some((1, 0, 1))]);
+    script.expect((0, 1), &case);
+    script.label("14: bytes 0, 7, 8, 31 of chunk 1, 0 of chunk 2, 31 of chunk 3");
+    for (number, index, bit) in [
+        (1, 0, 1),
+        (1, 7, 128),
+        (1, 8, 1),
+        (1, 31, 128),
+        (2, 0, 1),
+        (3, 31, 128),
+    ] {
+        let other = case.but(|case| chunk_bytes(&mut case.store, number)[index] ^= bit);
+        script.expect((14, 0), &other);
+    }
+    script.label("14: bytes 0 to 7 of chunk 1 exchanged with bytes 8 to 15");
+    let exchanged = case.but(|case| chunk_bytes(&mut case.store, 1)[..16].rotate_left(8));
+    script.expect((14, 0), &exchanged);
+    script.label("14: nothing burned, the last byte of 1,024 chunks");
+    let largest = Case::unused(script, 1, 1024, 1);
+    let other = largest.but(|case| chunk_bytes(&mut case.store, 1023)[31] ^= 128);
+    script.expect((14, 0), &other);
 }
