@@ -1,0 +1,5 @@
+-- The laws of quotients rounded up and of their sums, and that a plan has one answer.
+pub mod Quotients
+pub mod Sums
+pub mod Search
+pub mod Plans
