@@ -119,7 +119,7 @@ module _ (f : Fed) (begun : Begun f) where
       go true e = done-good a call good (eqb-true (accountRefusal f a call) 0 e)
       go false e = refused-good a call good
 
-  from-good : (a : Account) (calls : List Call) → Good f a → Good f (accountFrom f a calls)
+  pub from-good : (a : Account) (calls : List Call) → Good f a → Good f (accountFrom f a calls)
   unfolding accountFrom
   from-good a [] good = good
   from-good a (call ∷ calls) good = from-good (accountStep f a call) calls (step-good a call good)

@@ -28,7 +28,7 @@ placed-none f p zero memory = refl
 placed-none f p (suc n) memory = placed-none f (suc p) n (splice memory (logPlace (f .store) p) []) ∙ splice-none memory (logPlace (f .store) p)
 
 module _ (f : Fed) (begun : Begun f) where
-  device-started : deviceStarted f ≡ deviceOf f (started f)
+  pub device-started : deviceStarted f ≡ deviceOf f (started f)
   unfolding started joined zeroed
   device-started =
       let good = started-good f begun in
@@ -46,7 +46,7 @@ module _ (f : Fed) (begun : Begun f) where
   call-agrees a good (Append phase bytes) allowed = append-agrees f begun a good phase bytes
   call-agrees a good Close allowed = close-agrees f begun a good
 
-  run-answers : (calls : List Call) (a : Account) → Good f a → HistoryFrom f a calls → runAnswers (deviceOf f a) calls ≡ answersFrom f a calls
+  pub run-answers : (calls : List Call) (a : Account) → Good f a → HistoryFrom f a calls → runAnswers (deviceOf f a) calls ≡ answersFrom f a calls
   unfolding runAnswers answersFrom HistoryFrom
   run-answers [] a good history = refl
   run-answers (call ∷ calls) a good history =
@@ -55,7 +55,7 @@ module _ (f : Fed) (begun : Begun f) where
       ∙ ap (λ (answers : List Answer). accountAnswer f a call ∷ answers)
       (run-answers calls (accountStep f a call) (step-good f begun a call good) (history .1))
 
-  run-leaves : (calls : List Call) (a : Account) → Good f a → HistoryFrom f a calls → runFrom (deviceOf f a) calls ≡ deviceOf f (accountFrom f a calls)
+  pub run-leaves : (calls : List Call) (a : Account) → Good f a → HistoryFrom f a calls → runFrom (deviceOf f a) calls ≡ deviceOf f (accountFrom f a calls)
   unfolding runFrom accountFrom HistoryFrom
   run-leaves [] a good history = refl
   run-leaves (call ∷ calls) a good history =

@@ -6,4 +6,6 @@ pub mod Kept
 pub mod Compromise
 pub mod Honest
 pub mod Claim
+pub mod Plan
+pub mod Foretold
 pub mod Rows

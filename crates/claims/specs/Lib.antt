@@ -1,5 +1,6 @@
--- docs/FORMAT.md, 10 and 11, as definitions: the account, histories, the run of calls, the claim about all of them; the marked rows.
+-- docs/FORMAT.md, 10, 11 and 13, as definitions: the account, histories, the run of calls, the claim about all of them; plans; the marked rows.
 pub mod Account
 pub mod Run
 pub mod Claim
+pub mod Plan
 pub mod Rows

@@ -1,6 +1,6 @@
 -- The store that an account leaves is the unused one with zeros at its first chunks, and its burned chunks are those carried.
 use mathlib.Core.Path.{_≡_, refl, sym, ap, _∙_}
-use mathlib.Core.Bool.{cond}
+use mathlib.Core.Bool.{true, false, cond}
 use mathlib.Core.Logic.{by-cases}
 use mathlib.Core.List.{List}
 use Prim.Native.Nat.{ℕ, zero, suc, _+_, _-_, _*_, _≤_, _<_}
@@ -55,21 +55,26 @@ module _ (f : Fed) (a : Account) (good : Good f a) (ok : KeyStore (f .store)) wh
       ∙ same-ltb (x * n) (length (a .items)) x (front a)
       ((λ h. lt-of-mul-lt-mul-right n (omega (arith, front-keys))), (λ h. omega (arith, suc-mul x n, mul-le-mul-right n h, front-keys)))
 
-  burned-low : (n : ℕ) → n ≤ front a → burnedUpTo f a n ≡ zeroed (f .store) n
-  unfolding burnedUpTo zeroed
-  burned-low zero h = refl
-  burned-low (suc n) h = rw (carried-front n, lt-ltb n (front a) h, burned-low n (omega arith))
+  -- what goes on with each chunk that is carried ends at the front
+  module _ {A : Type 0} (g h : ℕ → A) (first : g 0 ≡ h 0) (on : (n : ℕ) → carried a n ≡ true → g n ≡ h n → g (suc n) ≡ h (suc n))
+      (stays : (n : ℕ) → carried a n ≡ false → g (suc n) ≡ g n) where
+    fold-low : (n : ℕ) → n ≤ front a → g n ≡ h n
+    fold-low zero most = first
+    fold-low (suc n) most = on n (carried-front n ∙ lt-ltb n (front a) most) (fold-low n (omega arith))
 
-  burned-high : (k : ℕ) → burnedUpTo f a (front a + k) ≡ zeroed (f .store) (front a)
-  unfolding burnedUpTo
-  burned-high zero = rw add-zero (burned-low (front a) (omega arith))
-  burned-high (suc k) = rw add-suc (rw (carried-front (front a + k), le-ltb (front a + k) (front a) (omega arith)) (burned-high k))
+    fold-high : (k : ℕ) → g (front a + k) ≡ h (front a)
+    fold-high zero = rw add-zero (fold-low (front a) (omega arith))
+    fold-high (suc k) = rw add-suc (stays (front a + k) (carried-front (front a + k) ∙ le-ltb (front a + k) (front a) (omega arith)) ∙ fold-high k)
+
+    pub fold-front : g (chunkCount (f .store)) ≡ h (front a)
+    fold-front =
+        let most = front-at-most in
+        let there : chunkCount (f .store) ≡ front a + (chunkCount (f .store) - front a) = omega arith in
+        ap g there ∙ fold-high (chunkCount (f .store) - front a)
 
   pub store-left : storeLeft f a ≡ zeroed (f .store) (front a)
-  store-left =
-      let most = front-at-most in
-      let there : chunkCount (f .store) ≡ front a + (chunkCount (f .store) - front a) = omega arith in
-      ap (burnedUpTo f a) there ∙ burned-high (chunkCount (f .store) - front a)
+  unfolding burnedUpTo zeroed
+  store-left = fold-front (burnedUpTo f a) (zeroed (f .store)) refl (λ n taken same. rw (taken, same)) (λ n free. rw free)
 
   -- where the store was unused, the burned chunks are those carried
   pub burned-left : ((x : ℕ) → x < chunkCount (f .store) → Burned (f .store) x → ⊥)
