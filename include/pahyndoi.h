@@ -1,8 +1,8 @@
 /*
  * Sealed phase logs: SHA-256 (FIPS 180-4), HMAC-SHA-256 (RFC 2104, FIPS
  * 198-1), the sealer that opens a key store, appends and closes, the audit,
- * and which item sealed a byte. The archive asks for memcpy and memset alone,
- * and allocates nothing.
+ * which item sealed a byte, and the ratchet that a card needs. The archive asks
+ * for memcpy and memset alone, and allocates nothing.
  */
 
 #ifndef PAHYNDOI_H
@@ -60,7 +60,7 @@ uint32_t pahyndoi_hmac_sha256(const uint8_t *key, size_t key_length,
                               const uint8_t *message, size_t message_length,
                               uint8_t tag[32]);
 
-/* ---- Sealer, audit and lookups ---- */
+/* ---- Sealer, audit, lookups and plans ---- */
 
 /*
  * Of the calls below: every pointer must be readable, and writable where it is
@@ -84,10 +84,10 @@ uint32_t pahyndoi_hmac_sha256(const uint8_t *key, size_t key_length,
 #define PAHYNDOI_FILLER_SIZE 41
 
 /*
- * Open, append, close, the audit and item_at answer one 64-bit number: the
- * refusal times 2 to the 32, plus a number that each call explains. Nothing is
- * refused exactly if the refusal is 0; the answer is then just the number.
- * data_at answers a place and a length in the same way.
+ * Open, append, close, the audit, item_at and least_ratchet answer one 64-bit
+ * number: the refusal times 2 to the 32, plus a number that each call explains.
+ * Nothing is refused exactly if the refusal is 0; the answer is then just the
+ * number. data_at answers a place and a length in the same way.
  */
 #define PAHYNDOI_REFUSAL(answer) ((uint32_t)((uint64_t)(answer) >> 32))
 #define PAHYNDOI_NUMBER(answer) ((uint32_t)(uint64_t)(answer))
@@ -156,7 +156,10 @@ enum pahyndoi_refusal {
     PAHYNDOI_NOT_COVERED = 23,
     /* The phase is not one of the store's, or the offset is not below the
        phase's length. */
-    PAHYNDOI_NO_SUCH_BYTE = 24
+    PAHYNDOI_NO_SUCH_BYTE = 24,
+    /* The plan has more than 64 counts, a count above 65,536, or a chunk count
+       outside 1 to 1,024. */
+    PAHYNDOI_BAD_PLAN = 25
 };
 
 /*
@@ -298,6 +301,26 @@ uint64_t pahyndoi_data_at(const uint8_t *device, size_t device_size,
 #define PAHYNDOI_PLACE(answer) ((uint32_t)((uint64_t)(answer) >> 32))
 #define PAHYNDOI_LENGTH(answer) ((uint32_t)(uint64_t)(answer))
 
+/*
+ * The least ratchet N with which the chunks of a card last. counts says how
+ * many entries will be appended before each close, for each close to come, and
+ * chunks how many chunks fit the card. So many entries and a close burn count /
+ * N chunks, rounded up. The number answered is the least N from 1 to 256 for
+ * which these quotients together are at most chunks, 0 where there is none: the
+ * card is then too small for any N. A count may be 0. An empty list needs 1.
+ *
+ * It speaks of chunks alone. The logs of a card take 8,192 bytes a phase, so
+ * never more than 65,536 entries; the seal memory needs 50 bytes for an entry
+ * and 41 for a filler.
+ *
+ * Refused in this order: 25. The number is then 0.
+ *
+ * counts_count is how many counts there are, not bytes. Everything is only
+ * read.
+ */
+uint64_t pahyndoi_least_ratchet(const uint32_t *counts, size_t counts_count,
+                                uint32_t chunks);
+
 /* ---- Stack and registers ---- */
 
 /*
@@ -306,7 +329,7 @@ uint64_t pahyndoi_data_at(const uint8_t *device, size_t device_size,
  * every proof. No call clears them. Until other code overwrites them, they may
  * hold, whole or in pieces, after
  *
- *   open                   no key of its own; what earlier calls left stays;
+ *   open, least_ratchet    no key of its own; what earlier calls left stays;
  *   append                 the key that sealed the item (at offset 0 the chunk
  *                          that it burned), and the key that the state holds;
  *   close                  the keys that sealed the fillers;
@@ -328,10 +351,10 @@ uint64_t pahyndoi_data_at(const uint8_t *device, size_t device_size,
 /*
  * The stack that a call uses at most, in bytes below the caller's frame, with
  * arguments and return address: open, append and close; audit, item_at and
- * data_at; sha256 and hmac_sha256. Measured and read off the machine code for
- * the archive as rt staticlib builds it for x86-64, with some 600 bytes to
- * spare for memcpy and memset; not proved. Running out of stack is outside the
- * proofs as well.
+ * data_at; sha256, hmac_sha256 and least_ratchet. Measured and read off the
+ * machine code for the archive as rt staticlib builds it for x86-64, with some
+ * 600 bytes to spare for memcpy and memset; not proved. Running out of stack is
+ * outside the proofs as well.
  *
  * Link memcpy and memset statically or with -z now. A dynamic linker that
  * looks them up at their first call saves registers kilobytes deeper.

@@ -86,6 +86,7 @@ unsafe extern "C" {
         phase: u8,
         offset: u32,
     ) -> u64;
+    fn pahyndoi_least_ratchet(counts: *const u32, counts_count: usize, chunks: u32) -> u64;
 }
 
 /// The sealing state, laid out as `struct pahyndoi_state`.
@@ -292,4 +293,12 @@ pub fn hmac_sha256_raw(key: &[u8], message: &[u8], tag: &mut [u8; DIGEST_LENGTH]
             tag.as_mut_ptr(),
         )
     }
+}
+
+/// Plans a ratchet and gives the call's answer: the least that lasts, 0 where
+/// none does, 25 times 2^32 where refused.
+pub fn least_ratchet_raw(counts: &[u32], chunks: u32) -> u64 {
+    // SAFETY: the slice is readable for its length, aligned and not null;
+    // nothing is written.
+    unsafe { pahyndoi_least_ratchet(counts.as_ptr(), counts.len(), chunks) }
 }

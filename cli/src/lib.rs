@@ -1,7 +1,8 @@
 //! The calls of the static library `pahyndoi`, each of them proved: SHA-256
 //! (FIPS 180-4), HMAC-SHA-256 (RFC 2104), the sealing of logs ([`open`],
-//! [`append`], [`close`]), the [`audit`] of what is presented, and which item
-//! sealed a byte of it ([`item_at`], [`data_at`]).
+//! [`append`], [`close`]), the [`audit`] of what is presented, which item
+//! sealed a byte of it ([`item_at`], [`data_at`]), and the ratchet that a card
+//! needs ([`least_ratchet`]).
 //!
 //! The README has an example, which runs as a test of this package.
 
@@ -11,16 +12,18 @@ mod hash;
 mod lookup;
 pub mod model;
 pub mod plain;
+mod planning;
 mod refusal;
 mod sealer;
 
 pub use auditor::{Material, Rejected, audit};
 pub use ffi::{
-    State, append_raw, audit_raw, close_raw, data_at_raw, hmac_sha256_raw, item_at_raw, open_raw,
-    sha256_raw,
+    State, append_raw, audit_raw, close_raw, data_at_raw, hmac_sha256_raw, item_at_raw,
+    least_ratchet_raw, open_raw, sha256_raw,
 };
 pub use hash::{DIGEST_LENGTH, LENGTH_LIMIT, hmac_sha256, sha256};
 pub use lookup::{data_at, item_at};
+pub use planning::least_ratchet;
 pub use refusal::Refusal;
 pub use sealer::{append, close, open};
 

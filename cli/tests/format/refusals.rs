@@ -77,7 +77,7 @@ fn page_header_and_tool_say_the_same() {
         .iter()
         .map(|row| (number_of(row), row[1].to_string()))
         .collect();
-    let tool: Vec<(u32, String)> = (1..=24)
+    let tool: Vec<(u32, String)> = (1..=25)
         .map(|number| (number, Refusal(number).meaning().to_string()))
         .collect();
     assert_eq!(page, tool);
@@ -89,7 +89,7 @@ fn calls_check_what_the_header_lists() {
     let rows = rows();
     let lists = listed_in_the_header();
     let calls: Vec<&str> = lists.iter().map(|(call, _)| call.as_str()).collect();
-    assert_eq!(calls, ["open", "append", "close", "audit"]);
+    assert_eq!(calls, ["open", "append", "close", "audit", "least_ratchet"]);
     for (call, listed) in lists {
         let checked = rows.iter().filter(|row| row[3].contains(&call));
         let checked: Vec<u32> = checked.map(|row| number_of(row)).collect();

@@ -2,3 +2,4 @@
 pub mod Packing
 pub mod Listing
 pub mod Zero
+pub mod Planning

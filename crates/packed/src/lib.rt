@@ -1,6 +1,7 @@
-// Open, append, close, the audit and the lookups with an answer of one word.
+// Open, append, close, the audit, the lookups and the plans with an answer of one word.
 mod answers;
 pub mod auditing;
 mod lengths;
 pub mod looking;
+pub mod plans;
 pub mod sealing;

@@ -4,10 +4,12 @@ ghost use Rattle.pahyndoi.specs.Hash.{Hashed, Tagged};
 ghost use Rattle.packed.specs.Surface.{Opened, Appended, Closed};
 ghost use Rattle.packed.specs.Audited.{Audited};
 ghost use Rattle.packed.specs.LookedUp.{LookedUp, Located};
+ghost use Rattle.packed.specs.Plans.{RatchetPlanned};
 ghost use Rattle.sha256.specs.Call.{refusalOf};
 use packed::auditing::audit_packed;
 use packed::looking::data_at_packed;
 use packed::looking::item_at_packed;
+use packed::plans::least_ratchet_packed;
 use packed::sealing::append_packed;
 use packed::sealing::close_packed;
 use packed::sealing::open_packed;
@@ -151,4 +153,13 @@ pub extern "C" fn pahyndoi_data_at(
         (now (seal .entry)) phase offset r ⌝ }
 {
     data_at_packed(device, auditor, logs, lengths, seal, phase, offset)
+}
+
+// The least ratchet from 1 to 256 with which so many chunks last for the counts of entries between closes, 0 where none does; 25 times 2 to
+// the 32 where the plan is refused. Nothing is written.
+#[no_mangle]
+pub extern "C" fn pahyndoi_least_ratchet(counts: &[u32], chunks: u32) -> u64
+    ensures { λ r. ⌜ RatchetPlanned (now (counts .entry)) chunks r ⌝ }
+{
+    least_ratchet_packed(counts, chunks)
 }
