@@ -1,6 +1,6 @@
-//! The library's open, append, close, audit and lookups compared with the
-//! model's on random cases: answers, states and every byte. `PAHYNDOI_SEED`
-//! and `PAHYNDOI_CASES` choose other cases than the usual ones.
+//! The library's open, append, close, audit, lookups and plans compared with
+//! the model's on random cases: answers, states and every byte.
+//! `PAHYNDOI_SEED` and `PAHYNDOI_CASES` choose other cases than the usual ones.
 
 #[path = "histories/accounts.rs"]
 mod accounts;
@@ -12,6 +12,8 @@ mod areas;
 mod bits;
 #[path = "histories/calls.rs"]
 mod calls;
+#[path = "histories/cards.rs"]
+mod cards;
 #[path = "histories/damage.rs"]
 mod damage;
 #[path = "histories/device.rs"]
@@ -32,6 +34,8 @@ mod lookups;
 mod mishap;
 #[path = "histories/places.rs"]
 mod places;
+#[path = "histories/plans.rs"]
+mod plans;
 #[path = "histories/presentation.rs"]
 mod presentation;
 #[path = "histories/random.rs"]
@@ -43,8 +47,11 @@ mod rows;
 #[path = "histories/tally.rs"]
 mod tally;
 
+use std::collections::BTreeSet;
+
 use answer::{is_accepted, split};
 use device::Device;
+use plans::Outcomes;
 use presentation::Presentation;
 use random::{Case, Run};
 use tally::Tally;
@@ -226,4 +233,66 @@ fn largest_material_is_audited_to_its_last_byte() {
     let answer = largest.compare_at(&mut case.random, &mut tally, &[(8, 8191)]);
     assert_eq!(split(answer), (21, items - 1));
     tally.print();
+}
+
+#[test]
+fn plans_are_those_of_the_model() {
+    let run = Run::new(100_000);
+    let mut outcomes = Outcomes::default();
+    for plan in plans::at_the_edges() {
+        outcomes.note(plan.compare(0));
+    }
+    for number in 0..run.cases {
+        let mut case = run.case(number);
+        let plan = plans::random_plan(&mut case.random);
+        outcomes.note(plan.compare(case.random.up_to(8)));
+    }
+    outcomes.print();
+    if run.whole {
+        outcomes.assert_met(5000);
+    }
+}
+
+#[test]
+fn followed_plans_burn_what_they_take() {
+    let run = Run::new(1000);
+    let (mut lasted, mut spent) = (0, 0);
+    for number in 0..run.cases {
+        let ends = cards::use_up(&mut run.case(number).random);
+        lasted += ends.0;
+        spent += ends.1;
+    }
+    println!("plans that lasted: {lasted}, that met the last key: {spent}");
+    if run.whole {
+        assert!(lasted.min(spent) > run.cases / 2, "few of a kind");
+    }
+}
+
+#[test]
+fn least_ratchet_lasts_and_no_smaller_one_does() {
+    let run = Run::new(1000);
+    let (mut none, mut ratchets) = (0, BTreeSet::new());
+    for number in 0..run.cases {
+        match cards::try_least(&mut run.case(number).random) {
+            None => none += 1,
+            Some(ratchet) => _ = ratchets.insert(ratchet),
+        }
+    }
+    println!("none lasts: {none}, least: {ratchets:?}");
+    if run.whole {
+        assert!(none > run.cases / 20, "few plans were too large");
+        assert!(ratchets.len() > 20, "few ratchets were the least");
+    }
+}
+
+#[test]
+fn no_key_is_missing_where_memory_is() {
+    let run = Run::new(500);
+    let refused: usize = (0..run.cases)
+        .map(|number| cards::run_out_of_memory(&mut run.case(number).random))
+        .sum();
+    println!("calls refused by 10: {refused}");
+    if run.whole {
+        assert!(refused > run.cases, "few calls were refused");
+    }
 }

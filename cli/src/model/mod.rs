@@ -7,6 +7,7 @@ mod bytes;
 mod item;
 mod key;
 mod lookup;
+mod planning;
 mod refusal;
 mod sealing;
 mod store;
@@ -18,6 +19,7 @@ pub use audit::{Presented, audit, audit_packed, log_lengths};
 pub use item::{ENTRY_LENGTH, FILLER_LENGTH, Head, Item};
 pub use key::{Position, key_at, next_key, position, ratchet_message};
 pub use lookup::Audited;
+pub use planning::{chunks_needed, least_ratchet};
 pub use sealing::{State, append, close, open};
 pub use store::{Header, burned_at_front, chunk, is_burned};
 

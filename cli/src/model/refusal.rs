@@ -23,3 +23,4 @@ pub(super) const TAG_WRONG: u32 = 21;
 pub(super) const ITEMS_MISSING: u32 = 22;
 pub(super) const LOG_UNCOVERED: u32 = 23;
 pub(super) const NO_SUCH_BYTE: u32 = 24;
+pub(super) const BAD_PLAN: u32 = 25;

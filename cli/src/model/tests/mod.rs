@@ -4,6 +4,7 @@
 mod audit;
 mod history;
 mod lookup;
+mod planning;
 mod rows;
 mod sealing;
 
