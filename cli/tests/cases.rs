@@ -46,4 +46,5 @@ fn every_refusal_is_met() {
     let of_audit: Vec<u32> = [0].into_iter().chain(2..=5).chain(12..=23).collect();
     assert_eq!(refusals("audit"), of_audit);
     assert_eq!(refusals("lookup"), [&of_audit[..], &[24]].concat());
+    assert_eq!(refusals("plan"), [0, 25]);
 }

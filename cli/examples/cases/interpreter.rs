@@ -53,6 +53,19 @@ impl Record<'_> {
             .collect()
     }
 
+    /// As many counts as byte 1 says: the listed ones from their place on, and
+    /// the other count before and behind them.
+    fn counts(&self) -> Vec<u32> {
+        let (count, first) = (usize::from(self.byte(1)), usize::from(self.byte(2)));
+        assert!(count <= COUNTS_LIMIT, "{count} counts");
+        let mut counts = vec![self.number(8); COUNTS_LIMIT];
+        for (index, listed) in counts[first..][..LISTED_COUNTS].iter_mut().enumerate() {
+            *listed = self.number(LISTED_START + 4 * index);
+        }
+        counts.truncate(count);
+        counts
+    }
+
     /// A number that is at most the limit.
     fn length(&self, index: usize, limit: u32) -> usize {
         let length = self.number(index);
@@ -124,6 +137,7 @@ impl Machine {
             KEEP => self.auditor_store = self.material.store.clone(),
             AUDIT => self.audit(record),
             LOOKUP => self.look_up(record),
+            PLAN => self.plan(record),
             operation => panic!("operation {operation}"),
         }
     }
@@ -176,6 +190,12 @@ impl Machine {
         self.print_reading(&format!(
             "lookup {refusal} {number} {start} {length} {data}"
         ));
+    }
+
+    fn plan(&mut self, record: &Record) {
+        self.answer = model::least_ratchet(&record.counts(), record.number(4));
+        let Answer { refusal, number } = self.answer;
+        self.print(&format!("plan {refusal} {number}"));
     }
 
     /// What is asked of the audited material.

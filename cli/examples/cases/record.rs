@@ -39,6 +39,10 @@ pub const AUDIT: u8 = 9;
 /// As for the audit, and 2: phase, 8: offset.
 pub const LOOKUP: u8 = 10;
 
+/// 1: the number of counts, 2: the place of the first listed one, 4: chunk
+/// count, 8: the count at the other places, 16: twelve listed counts.
+pub const PLAN: u8 = 11;
+
 pub const FIELD_CHUNK: u8 = 0;
 pub const FIELD_OFFSET: u8 = 1;
 pub const FIELD_SEAL_LENGTH: u8 = 2;
@@ -59,6 +63,14 @@ pub const BYTES_START: usize = 8;
 pub const LENGTHS_LIMIT: usize = 9;
 
 pub const LENGTHS_START: usize = 16;
+
+/// The most counts that one record lends.
+pub const COUNTS_LIMIT: usize = 66;
+
+/// How many of them one record lists.
+pub const LISTED_COUNTS: usize = 12;
+
+pub const LISTED_START: usize = 16;
 
 /// The longest that a program reading the script must hold.
 pub const SCRIPT_LIMIT: usize = 131_072;

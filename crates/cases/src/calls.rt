@@ -12,10 +12,18 @@ use crate::report::line;
 use crate::report::write_data;
 use crate::report::write_found;
 use crate::report::write_memories;
+use crate::report::write_ratchet;
 use crate::report::write_verdict;
 
 // The most lengths that a record lends.
 const MAX_LENGTHS: usize = 9;
+
+// The most counts that a record lends, how many of them it has one by one, and the last place at which those may begin.
+const MAX_COUNTS: usize = 66;
+
+const MAX_LISTED: usize = 12;
+
+const LAST_START: usize = 54;
 
 // The most data that a record appends.
 const MAX_DATA: usize = 1024;
@@ -134,6 +142,27 @@ fn write_lookup(
     let place = lookup::data_place(device, auditor, logs, lengths, seal, phase, offset);
     let part = lookup::data_at(device, auditor, logs, lengths, seal, phase, offset);
     write_data(place.begin, part);
+}
+
+// A plan is lent the record's counts and no memory.
+pub fn plan(view: View, record: &[u8]) -> View {
+    let counts = counts_of(record);
+    let n = at_most(MAX_COUNTS, byte(record, 1) as usize);
+    let ratchet = planning::least_ratchet(&counts[..n], word(record, 4));
+    write_ratchet(ratchet);
+    view
+}
+
+// The counts of a record: one at every place but those of the counts that it lists.
+fn counts_of(record: &[u8]) -> [u32; MAX_COUNTS]
+    ensures { λ r. ⌜ 66 ≡ length r ⌝ }
+{
+    let mut counts = [word(record, 8); MAX_COUNTS];
+    let start = at_most(LAST_START, byte(record, 2) as usize);
+    for i in 0..MAX_LISTED {
+        counts[start + i] = word(record, 16 + 4 * i);
+    }
+    counts
 }
 
 // The log lengths that a record has.

@@ -1,5 +1,5 @@
-// Runs a script of calls through the sealer, the audit and the lookups and writes a line for each call: what it answered, and digests of
-// all it may change.
+// Runs a script of calls through the sealer, the audit, the lookups and the plans and writes a line for each call: what it answered, and
+// digests of all it may change.
 ghost use mathlib.Core.Path.{_≡_};
 ghost use lib.ListN.{length};
 
@@ -58,6 +58,7 @@ fn step(
         8 => change::keep(view, store, auditor),
         9 => calls::audit(view, record, store, logs, seal, auditor),
         10 => calls::lookup(view, record, store, logs, seal, auditor),
+        11 => calls::plan(view, record),
         _ => view,
     }
 }

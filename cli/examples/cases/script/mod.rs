@@ -1,12 +1,13 @@
 //! The script: sealing under several shapes of store, audits of what it leaves
 //! and of what is forged, lookups of bytes, each refusal at its two sides, and
-//! their order.
+//! their order; plans.
 
 mod audits;
 mod fit;
 mod limits;
 mod lookups;
 mod order;
+mod plans;
 mod sealing;
 mod stores;
 
@@ -30,6 +31,7 @@ pub fn script() -> Vec<u8> {
     order::groups(&mut script);
     audits::groups(&mut script);
     lookups::groups(&mut script);
+    plans::groups(&mut script);
     assert!(
         script.records.len() <= SCRIPT_LIMIT,
         "the script is too long"
@@ -102,7 +104,7 @@ impl Script {
             &[
                 (1, &[log_lengths.len() as u8]),
                 (8, &seal_length.to_le_bytes()),
-                (LENGTHS_START, &length_bytes(log_lengths)),
+                (LENGTHS_START, &number_bytes(log_lengths)),
             ],
         );
     }
@@ -183,7 +185,7 @@ impl Script {
             &[
                 (1, &[log_lengths.len() as u8]),
                 (4, &seal_length.to_le_bytes()),
-                (LENGTHS_START, &length_bytes(log_lengths)),
+                (LENGTHS_START, &number_bytes(log_lengths)),
             ],
         );
     }
@@ -195,7 +197,23 @@ impl Script {
                 (1, &[log_lengths.len() as u8, phase]),
                 (4, &seal_length.to_le_bytes()),
                 (8, &offset.to_le_bytes()),
-                (LENGTHS_START, &length_bytes(log_lengths)),
+                (LENGTHS_START, &number_bytes(log_lengths)),
+            ],
+        );
+    }
+
+    /// All counts but twelve in a row must be the same.
+    fn plan(&mut self, counts: &[u32], chunk_count: u32) {
+        let (first, other) = unlisted(counts).expect("counts that a record can say");
+        let listed = counts.get(first..).unwrap_or_default();
+        let listed = &listed[..listed.len().min(LISTED_COUNTS)];
+        self.push(
+            PLAN,
+            &[
+                (1, &[counts.len() as u8, first as u8]),
+                (4, &chunk_count.to_le_bytes()),
+                (8, &other.to_le_bytes()),
+                (LISTED_START, &number_bytes(listed)),
             ],
         );
     }
@@ -212,6 +230,17 @@ impl Script {
     }
 }
 
+/// Where a record's listed counts may begin, and the count that all others are.
+fn unlisted(counts: &[u32]) -> Option<(usize, u32)> {
+    (0..=COUNTS_LIMIT - LISTED_COUNTS).find_map(|first| {
+        let listed = first..first + LISTED_COUNTS;
+        let mut others = (0..counts.len()).filter(|index| !listed.contains(index));
+        let other = others.next().map_or(0, |index| counts[index]);
+        let same = others.all(|index| counts[index] == other);
+        same.then_some((first, other))
+    })
+}
+
 /// A chunk of zeros but for these bytes, each behind its index.
 fn nearly_burned(left: &[(usize, u8)]) -> [u8; CHUNK_LENGTH as usize] {
     let mut chunk = [0; CHUNK_LENGTH as usize];
@@ -221,7 +250,7 @@ fn nearly_burned(left: &[(usize, u8)]) -> [u8; CHUNK_LENGTH as usize] {
     chunk
 }
 
-fn length_bytes(log_lengths: &[u32]) -> Vec<u8> {
-    let numbers = log_lengths.iter();
-    numbers.flat_map(|length| length.to_le_bytes()).collect()
+fn number_bytes(numbers: &[u32]) -> Vec<u8> {
+    let numbers = numbers.iter();
+    numbers.flat_map(|number| number.to_le_bytes()).collect()
 }
