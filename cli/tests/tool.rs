@@ -14,6 +14,14 @@ mod item;
 mod material;
 #[path = "tool/pack.rs"]
 mod pack;
+#[path = "tool/plan.rs"]
+mod plan;
+#[path = "tool/plan_table.rs"]
+mod plan_table;
+#[path = "tool/plan_usage.rs"]
+mod plan_usage;
+#[path = "common/random.rs"]
+mod random;
 #[path = "tool/refusals.rs"]
 mod refusals;
 #[path = "tool/run.rs"]

@@ -123,6 +123,12 @@ fn known(names: &[&'static str], name: &str) -> Option<&'static str> {
     names.iter().find(|known| **known == name).copied()
 }
 
+/// A number of digits alone, with no sign.
+fn decimal(text: &str) -> Option<u32> {
+    let digits = text.bytes().all(|byte| byte.is_ascii_digit());
+    text.parse().ok().filter(|_| digits)
+}
+
 impl Arguments {
     pub fn has(&self, switch: &str) -> bool {
         self.switches.contains(&switch)
@@ -148,15 +154,30 @@ impl Arguments {
 
     /// The flag's decimal number, if it is in the range.
     pub fn required_number(&self, flag: &str, range: RangeInclusive<u32>) -> Result<u32, Failure> {
-        let text = self.required_text(flag)?;
-        let digits = text.bytes().all(|byte| byte.is_ascii_digit());
-        let number = text.parse().ok().filter(|_| digits);
+        self.number(flag, self.required(flag)?, range)
+    }
+
+    /// The operands' decimal numbers. An error calls one by this name.
+    pub fn numbers(&self, name: &str) -> Result<Vec<u32>, Failure> {
+        let operands = self.operands.iter();
+        operands
+            .map(|operand| self.number(name, operand.as_os_str(), 0..=u32::MAX))
+            .collect()
+    }
+
+    fn number(
+        &self,
+        name: &str,
+        value: &OsStr,
+        range: RangeInclusive<u32>,
+    ) -> Result<u32, Failure> {
+        let number = value.to_str().and_then(decimal);
         number
             .filter(|number| range.contains(number))
             .ok_or_else(|| {
                 let (low, high) = range.into_inner();
-                let value = shown(text);
-                self.wrong(format!("{flag} {value}: a number from {low} to {high}"))
+                let value = shown(value);
+                self.wrong(format!("{name} {value}: a number from {low} to {high}"))
             })
     }
 

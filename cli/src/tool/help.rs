@@ -11,11 +11,12 @@ Commands:
   item    say which item sealed a byte of a log, and show what it sealed
   dump    list the items of a seal file
   pack    make a key store of header and key bytes
+  plan    find what a card needs before it is packed
 
 'pahyndoi COMMAND --help' says more about a command.
 
-Exit status: 0 done or accepted, 1 refused or damaged, 2 bad usage or a file
-that can't be read or written.
+Exit status: 0 done or accepted, 1 refused, damaged or a card that does not
+last, 2 bad usage or a file that can't be read or written.
 ";
 
 pub const DEMO: &str = "\
@@ -119,4 +120,47 @@ No keys are made here. FILE's bytes must be random and secret, from a source
 that you trust; whoever knows them can forge seals.
 
 Exit status: 0, or 2 for bad usage or a file that can't be read or written.
+";
+
+pub const PLAN: &str = "\
+Finds what a card needs before it is packed.
+
+Usage: pahyndoi plan COMMAND [ARGUMENTS]
+
+Commands:
+  ratchet   find the least ratchet with which a card's chunks last
+
+'pahyndoi plan COMMAND --help' says more about a command.
+
+Exit status: 0 found, 1 refused or none lasts, 2 bad usage.
+";
+
+pub const PLAN_RATCHET: &str = "\
+Finds the least ratchet N, the keys made from each chunk, with which a card's
+chunks last. The answer is that of the proved call; the numbers of chunks around
+it are counted by the tool: a count takes count / N chunks, rounded up, as a
+close uses up the chunk that is begun.
+
+Usage: pahyndoi plan ratchet --chunks C [--json] COUNT..
+
+  --chunks C      the chunks that fit the card, 1 to 1024
+  COUNT           the entries between two closes, at most 65536; one COUNT for
+                  each close to come, up to 64; without any, N is 1
+
+  --json          print one JSON object: verdict (found, none or refused), rule,
+                  reason, detail, chunks, counts, ratchet (null if none lasts),
+                  taken and left (chunks, with that ratchet), table (of ratchet,
+                  chunks, lasts), card (if none lasts, the fewest chunks that
+                  do; null if no card has them); with exit status 2 there is
+                  none, only the error for people
+
+In the table > marks the answer. Where no N from 1 to 256 lasts, it says which
+card has chunks enough. More counts, larger ones and other numbers of chunks are
+refused by rule 25.
+
+The plan is of chunks alone. The logs of a card take 8,192 bytes a phase, so
+never more than 65,536 entries; a longer plan is answered and said to be so. The
+seal memory takes 50 bytes an entry and 41 a filler.
+
+Exit status: 0 found, 1 refused or none lasts, 2 bad usage.
 ";

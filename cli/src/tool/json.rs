@@ -4,8 +4,10 @@ use std::fmt;
 
 pub enum Value {
     Null,
+    Boolean(bool),
     Number(u64),
     Text(String),
+    Array(Vec<Value>),
     Object(Vec<(&'static str, Value)>),
 }
 
@@ -23,11 +25,21 @@ impl fmt::Display for Value {
     fn fmt(&self, formatter: &mut fmt::Formatter<'_>) -> fmt::Result {
         match self {
             Value::Null => formatter.write_str("null"),
+            Value::Boolean(truth) => write!(formatter, "{truth}"),
             Value::Number(number) => write!(formatter, "{number}"),
             Value::Text(text) => write_text(formatter, text),
+            Value::Array(values) => write_array(formatter, values),
             Value::Object(members) => write_object(formatter, members),
         }
     }
+}
+
+fn write_array(formatter: &mut fmt::Formatter<'_>, values: &[Value]) -> fmt::Result {
+    formatter.write_str("[")?;
+    for (index, value) in values.iter().enumerate() {
+        write!(formatter, "{}{value}", comma(index))?;
+    }
+    formatter.write_str("]")
 }
 
 fn write_object(
@@ -36,12 +48,16 @@ fn write_object(
 ) -> fmt::Result {
     formatter.write_str("{")?;
     for (index, (name, value)) in members.iter().enumerate() {
-        let comma = if index == 0 { "" } else { "," };
-        formatter.write_str(comma)?;
+        formatter.write_str(comma(index))?;
         write_text(formatter, name)?;
         write!(formatter, ":{value}")?;
     }
     formatter.write_str("}")
+}
+
+/// What stands before the value or member of this index.
+fn comma(index: usize) -> &'static str {
+    if index == 0 { "" } else { "," }
 }
 
 /// In quotes, with what RFC 8259 wants escaped.
@@ -82,5 +98,17 @@ mod tests {
         ];
         let expected = r#"{"n":7,"none":null,"o":{}}"#;
         assert_eq!(Value::Object(members).to_string(), expected);
+    }
+
+    #[test]
+    fn array_holds_values() {
+        let values = vec![
+            Value::Boolean(true),
+            Value::Boolean(false),
+            Value::Array(vec![]),
+            Value::Array(vec![Value::Number(7)]),
+        ];
+        let expected = "[true,false,[],[7]]";
+        assert_eq!(Value::Array(values).to_string(), expected);
     }
 }

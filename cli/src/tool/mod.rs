@@ -2,6 +2,7 @@
 
 mod arguments;
 mod audit;
+mod commands;
 mod coverage;
 mod demo;
 mod detail;
@@ -18,6 +19,7 @@ mod lookup;
 pub mod output;
 mod pack;
 mod picture;
+mod plan;
 mod reading;
 mod refused;
 mod store;
@@ -27,47 +29,33 @@ mod verdict;
 use std::ffi::OsString;
 use std::io::Write;
 
+use commands::{Command, Commands};
 use failure::Failure;
 
 /// The exit status of a command that did its work.
 #[derive(Clone, Copy, Debug, PartialEq, Eq)]
 pub enum Status {
-    /// Done; of an audit: accepted; of a lookup: found.
+    /// Done; of an audit: accepted; of a lookup or a plan: found.
     Done = 0,
-    /// An audit or a lookup refused, or a dumped file is damaged.
+    /// An audit, a lookup or a plan refused, no ratchet that lasts, or a dumped
+    /// file that is damaged.
     Refused = 1,
 }
 
-type Command = fn(&[OsString], &mut dyn Write) -> Result<Status, Failure>;
-
-const COMMANDS: [(&str, Command, &str); 5] = [
-    ("demo", demo::run, help::DEMO),
-    ("audit", audit::run, help::AUDIT),
-    ("item", lookup::run, help::ITEM),
-    ("dump", dump::run, help::DUMP),
-    ("pack", pack::run, help::PACK),
-];
+const COMMANDS: Commands = Commands {
+    of: None,
+    help: help::TOOL,
+    each: &[
+        ("demo", Command::Alone(demo::run, help::DEMO)),
+        ("audit", Command::Alone(audit::run, help::AUDIT)),
+        ("item", Command::Alone(lookup::run, help::ITEM)),
+        ("dump", Command::Alone(dump::run, help::DUMP)),
+        ("pack", Command::Alone(pack::run, help::PACK)),
+        ("plan", Command::Group(plan::COMMANDS)),
+    ],
+};
 
 /// Runs the command that the arguments name.
 pub fn run(arguments: &[OsString], out: &mut dyn Write) -> Result<Status, Failure> {
-    let Some((first, rest)) = arguments.split_first() else {
-        return Err(Failure::usage(None, "no command is given"));
-    };
-    if arguments::is_help(first) {
-        return print(out, help::TOOL);
-    }
-    let mut commands = COMMANDS.iter();
-    let Some((_, command, help)) = commands.find(|(name, ..)| first == name) else {
-        let message = format!("unknown command '{}'", text::shown(first));
-        return Err(Failure::usage(None, message));
-    };
-    match arguments::ask_for_help(rest) {
-        true => print(out, help),
-        false => command(rest, out),
-    }
-}
-
-fn print(out: &mut dyn Write, text: &str) -> Result<Status, Failure> {
-    out.write_all(text.as_bytes())?;
-    Ok(Status::Done)
+    COMMANDS.run(arguments, out)
 }

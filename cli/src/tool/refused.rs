@@ -41,12 +41,17 @@ pub fn verdict(refused: Option<&Refused>) -> Value {
 /// The rule, the item that the answer names, the rule's words and the detail,
 /// null where they do not apply.
 pub fn members(refused: Option<&Refused>, item: Option<u64>) -> [(&'static str, Value); 4] {
+    let [rule, reason, detail] = members_without_item(refused);
+    [rule, ("item", Value::number(item)), reason, detail]
+}
+
+/// As of an answer that names no item.
+pub fn members_without_item(refused: Option<&Refused>) -> [(&'static str, Value); 3] {
     let rule = refused.map(|refused| refused.rejected.refusal);
     let detail = refused.and_then(|refused| refused.detail.as_deref());
     let text = |text: Option<&str>| text.map_or(Value::Null, Value::text);
     [
         ("rule", Value::number(rule.map(|rule| rule.0))),
-        ("item", Value::number(item)),
         ("reason", text(rule.map(|rule| rule.meaning()))),
         ("detail", text(detail)),
     ]

@@ -2,7 +2,7 @@
 
 use crate::run::{assert_narrow, run};
 
-const COMMANDS: [&str; 5] = ["demo", "audit", "item", "dump", "pack"];
+const COMMANDS: [&str; 6] = ["demo", "audit", "item", "dump", "pack", "plan"];
 
 #[test]
 fn help_of_the_tool_names_every_command() {
@@ -112,6 +112,7 @@ fn control_characters_are_written_out() {
         ["dump", "--\u{7}"],
         ["demo", "\u{7}"],
         ["pack", "--id=\u{7}"],
+        ["plan", "\u{7}"],
     ] {
         let error = run(&arguments).failed();
         assert!(error.contains("\\u{7}"), "{error}");

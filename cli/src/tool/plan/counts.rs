@@ -1,0 +1,73 @@
+//! The counts that a card is planned for, and the chunks that they take.
+
+use super::super::store::{CHUNKS, LOG_CAPACITY, PHASES, RATCHET};
+use super::super::text::{counted, grouped};
+
+const MOST_COUNTS: usize = 64;
+const LARGEST_COUNT: u32 = 65_536;
+
+pub struct Plan {
+    /// The entries between two closes, for each close to come.
+    pub counts: Vec<u32>,
+    /// The chunks of the card.
+    pub chunks: u32,
+}
+
+impl Plan {
+    /// The chunks that the counts take: a close uses up the one that is begun.
+    pub fn taken(&self, ratchet: u32) -> u64 {
+        let counts = self.counts.iter();
+        counts.map(|count| u64::from(count.div_ceil(ratchet))).sum()
+    }
+
+    pub fn lasts(&self, ratchet: u32) -> bool {
+        self.taken(ratchet) <= self.chunks.into()
+    }
+
+    /// The fewest chunks that last with some ratchet, if a card has them.
+    pub fn smallest_card(&self) -> Option<u64> {
+        let fewest = self.taken(*RATCHET.end());
+        Some(fewest).filter(|fewest| *fewest <= (*CHUNKS.end()).into())
+    }
+
+    /// Which card has chunks enough where this one does not.
+    pub fn other_card(&self) -> String {
+        match self.smallest_card() {
+            Some(chunks) => format!(
+                "The smallest card with chunks enough has {}.",
+                grouped(chunks)
+            ),
+            None => format!(
+                "No card has chunks enough: the largest has {}.",
+                grouped((*CHUNKS.end()).into())
+            ),
+        }
+    }
+
+    /// Why chunks alone do not decide, if the logs can't take the entries: each
+    /// has a byte or more.
+    pub fn beyond_the_logs(&self) -> Option<String> {
+        let room = u64::from(*PHASES.end()) * LOG_CAPACITY as u64;
+        let entries: u64 = self.counts.iter().copied().map(u64::from).sum();
+        (entries > room).then(|| {
+            format!(
+                "The plan has {} entries, and the logs of one card take {} at most, of a byte \
+                 each: split it over several cards.",
+                grouped(entries),
+                grouped(room)
+            )
+        })
+    }
+
+    /// What is out of range in a plan that is refused.
+    pub fn out_of_range(&self) -> String {
+        let large = self.counts.iter().find(|count| **count > LARGEST_COUNT);
+        match large {
+            _ if self.counts.len() > MOST_COUNTS => {
+                format!("There are {}.", counted(self.counts.len(), "count"))
+            }
+            Some(count) => format!("A count is {}.", grouped((*count).into())),
+            None => format!("The chunk count is {}.", grouped(self.chunks.into())),
+        }
+    }
+}

@@ -1,0 +1,100 @@
+//! Help of `pahyndoi plan`, and arguments that are not understood.
+
+use crate::plan::words;
+use crate::run::{assert_narrow, run};
+
+#[test]
+fn wrong_arguments() {
+    let number = "a number from 0 to 4294967295";
+    let wrong: [(&[&str], String); 16] = [
+        (&[], "--chunks is missing".into()),
+        (&["36"], "--chunks is missing".into()),
+        (&["--chunks"], "--chunks needs a value".into()),
+        (&["--chunks="], "--chunks needs a value".into()),
+        (&["--chunks", "--json"], "--chunks needs a value".into()),
+        (
+            &["--chunks=1", "--chunks=1"],
+            "--chunks is given twice".into(),
+        ),
+        (&["--chunks=ten"], format!("--chunks ten: {number}")),
+        (&["--chunks=+1"], format!("--chunks +1: {number}")),
+        (
+            &["--chunks=4294967296"],
+            format!("--chunks 4294967296: {number}"),
+        ),
+        (&["--chunks=8", "36", "x"], format!("COUNT x: {number}")),
+        (&["--chunks=8", "1,024"], format!("COUNT 1,024: {number}")),
+        (
+            &["--chunks=8", "4294967296"],
+            format!("COUNT 4294967296: {number}"),
+        ),
+        (&["--chunks=8", "--", "-h"], format!("COUNT -h: {number}")),
+        (&["--chunks=8", ""], "an argument is empty".into()),
+        (&["--chunks=8", "-1"], "unknown flag '-1'".into()),
+        (
+            &["--chunks=8", "--json=yes"],
+            "unknown flag '--json=yes'".into(),
+        ),
+    ];
+    for (arguments, reason) in wrong {
+        let error = run(&[&["plan", "ratchet"], arguments].concat()).failed();
+        let expected = format!("pahyndoi: {reason}\nTry 'pahyndoi plan ratchet --help'.\n");
+        assert_eq!(error, expected);
+    }
+}
+
+#[test]
+fn counts_need_not_be_utf_8() {
+    use std::ffi::OsStr;
+    use std::os::unix::ffi::OsStrExt;
+    for odd in [&b"\xff"[..], b"--chunks=\xff"] {
+        let arguments = ["plan", "ratchet", "--chunks=8"].map(OsStr::new);
+        let known = if odd.len() > 1 { 2 } else { 3 };
+        let error = run(&[&arguments[..known], &[OsStr::from_bytes(odd)]].concat()).failed();
+        assert!(error.contains(": a number from 0 to"), "{error}");
+    }
+}
+
+#[test]
+fn flags_may_stand_anywhere() {
+    let expected = words(10, &[36, 36], 0);
+    for arguments in [
+        ["36", "--chunks", "10", "36"],
+        ["36", "36", "--chunks", "10"],
+        ["--chunks=10", "--", "36", "36"],
+    ] {
+        let text = run(&[&["plan", "ratchet"], &arguments[..]].concat()).ended(0);
+        assert_eq!(text, expected);
+    }
+}
+
+#[test]
+fn commands_of_plan() {
+    let hint = "Try 'pahyndoi plan --help'.\n";
+    let error = run(&["plan"]).failed();
+    assert_eq!(
+        error,
+        format!("pahyndoi: plan needs a command behind it\n{hint}")
+    );
+    for name in ["rachet", "8", "--chunks=8"] {
+        let error = run(&["plan", name, "--help"]).failed();
+        let expected = format!("pahyndoi: unknown command 'plan {name}'\n{hint}");
+        assert_eq!(error, expected);
+    }
+}
+
+#[test]
+fn help_of_each_command_of_plan() {
+    let text = run(&["plan", "-h"]).ended(0);
+    assert!(text.contains("\n  ratchet "), "{text}");
+    for arguments in [&["--help"][..], &["--chunks", "8", "36", "-h"]] {
+        let text = run(&[&["plan", "ratchet"], arguments].concat()).ended(0);
+        assert_narrow(&text);
+        assert!(
+            text.contains("\nUsage: pahyndoi plan ratchet --chunks C"),
+            "{text}"
+        );
+        let status = "\nExit status: 0 found, 1 refused or none lasts, 2 bad usage.\n";
+        assert!(text.ends_with(status), "{text}");
+    }
+}
