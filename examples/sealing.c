@@ -1,4 +1,4 @@
-/* A sealed log from the unused key store to the audit, with every call of pahyndoi.h. */
+/* A sealed log from the plan of its card to the audit, with every call of pahyndoi.h. */
 
 #include <stdio.h>
 #include <string.h>
@@ -25,6 +25,18 @@ static void print_answer(const char *call, uint64_t answer)
 {
     printf("%s: refusal %u, number %u\n", call, (unsigned)PAHYNDOI_REFUSAL(answer),
            (unsigned)PAHYNDOI_NUMBER(answer));
+}
+
+/* Before the card is packed: up to five entries and a close need the ratchet above. With four more
+   and a second close it must be larger, on one chunk none will do; no plan has 65,537 before a
+   close. */
+static void plan_card(void)
+{
+    const uint32_t counts[3] = {5, 4, 65537};
+    print_answer("plan of 5 entries", pahyndoi_least_ratchet(counts, 1, CHUNKS));
+    print_answer("plan of 5 and 4", pahyndoi_least_ratchet(counts, 2, CHUNKS));
+    print_answer("plan of 5 and 4 on one chunk", pahyndoi_least_ratchet(counts, 2, 1));
+    print_answer("plan with 65,537", pahyndoi_least_ratchet(counts, 3, CHUNKS));
 }
 
 /* An unused store. The chunks of a real one are random bytes, known to device and auditor alone. */
@@ -131,6 +143,7 @@ int main(void)
     pahyndoi_state state;
 
     hash_known();
+    plan_card();
     make_store();
     memcpy(auditor, store, sizeof store);
 

@@ -17,6 +17,8 @@ pahyndoi_state state;
 uint8_t phase;
 size_t data_size, key_size, message_size;
 uint32_t offset;
+size_t counts_count;
+uint32_t count, planned_chunks;
 uint64_t answer;
 close_call *close_function = pahyndoi_close;
 
@@ -126,6 +128,14 @@ void sha256_job(void)
 void hmac_job(void)
 {
     answer = (uint64_t)pahyndoi_hmac_sha256(zeros, key_size, zeros, message_size, result) << 32;
+}
+
+void least_ratchet_job(void)
+{
+    static uint32_t counts[COUNTS_MOST + 1];
+    for (size_t i = 0; i < counts_count; i++)
+        counts[i] = count;
+    answer = pahyndoi_least_ratchet(counts, counts_count, planned_chunks);
 }
 
 void craft_entry(uint8_t of_phase, uint32_t from, uint32_t size)

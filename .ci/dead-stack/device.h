@@ -36,6 +36,11 @@ extern size_t data_size, key_size, message_size;
 /* The byte of the phase's log that is looked up. */
 extern uint32_t offset;
 
+/* The plan that least_ratchet is handed, every count of it the same. */
+enum { COUNTS_MOST = 64 };
+extern size_t counts_count;
+extern uint32_t count, planned_chunks;
+
 /* What the last call answered; of sha256 and hmac the refusal, in its place. */
 extern uint64_t answer;
 
@@ -47,6 +52,7 @@ void item_at_job(void);
 void data_at_job(void);
 void sha256_job(void);
 void hmac_job(void);
+void least_ratchet_job(void);
 
 /* What close_job calls: pahyndoi_close, or another function in its place. */
 typedef uint64_t close_call(pahyndoi_state *, const uint8_t *, size_t, const uint8_t *, size_t,

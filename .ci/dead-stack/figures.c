@@ -21,6 +21,7 @@ static struct call item_finding = {"item_at", item_at_job, PAHYNDOI_AUDIT_STACK,
 static struct call data_finding = {"data_at", data_at_job, PAHYNDOI_AUDIT_STACK, 0};
 static struct call hashing = {"sha256", sha256_job, PAHYNDOI_HASH_STACK, 0};
 static struct call tagging = {"hmac_sha256", hmac_job, PAHYNDOI_HASH_STACK, 0};
+static struct call planning = {"least_ratchet", least_ratchet_job, PAHYNDOI_HASH_STACK, 0};
 
 /* The call as the device stands, which must keep to its figure. */
 static void measure_depth(struct call *call)
@@ -193,15 +194,39 @@ static void measure_hashes(void)
     measure(&tagging, PAHYNDOI_TOO_LONG);
 }
 
+/* Lists of every length with small and large counts, so that ratchets from 1 to 256 and none last;
+   then a list too long, chunk counts that no card has, and a count too large. */
+static void measure_plans(void)
+{
+    static const uint32_t counts[] = {0, 16, 256, 4096, 4097, 65536};
+    planned_chunks = 1024;
+    for (counts_count = 0; counts_count <= COUNTS_MOST; counts_count++) {
+        for (size_t i = 0; i < sizeof counts / sizeof counts[0]; i++) {
+            count = counts[i];
+            measure(&planning, 0);
+        }
+    }
+    measure(&planning, PAHYNDOI_BAD_PLAN);
+    counts_count = COUNTS_MOST;
+    planned_chunks = 0;
+    measure(&planning, PAHYNDOI_BAD_PLAN);
+    planned_chunks = 1025;
+    measure(&planning, PAHYNDOI_BAD_PLAN);
+    planned_chunks = 1024;
+    count = 65537;
+    measure(&planning, PAHYNDOI_BAD_PLAN);
+}
+
 void check_figures(void)
 {
-    const struct call *calls[] = {&opening,      &appending,    &closing, &auditing,
-                                  &item_finding, &data_finding, &hashing, &tagging};
+    const struct call *calls[] = {&opening,      &appending,    &closing, &auditing, &item_finding,
+                                  &data_finding, &hashing,      &tagging, &planning};
     measure_open();
     measure_append();
     measure_close();
     measure_audit();
     measure_hashes();
+    measure_plans();
     for (size_t i = 0; listing && i < sizeof calls / sizeof calls[0]; i++)
         printf("%s: %zu bytes deep\n", calls[i]->name, calls[i]->deepest);
 }
