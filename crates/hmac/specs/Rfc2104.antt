@@ -1,15 +1,18 @@
--- HMAC as RFC 2104 defines it, section 2, over SHA-256: H is sha256.
+-- HMAC as RFC 2104 defines it, section 2, over SHA-256: H is sha256. Then section 5: outputs that are cut.
 use mathlib.Core.Bool.{Bool, true, false}
 use mathlib.Core.List.{List, _++_, map}
 use Prim.Native.Nat.{ℕ, _-_}
 use lib.Dec.{leb}
-use lib.ListN.{length, replicate}
+use lib.ListN.{length, take, replicate}
 use lib.Bits.{bitXor}
 use Rattle.compression.specs.Fips.{sha256}
 
--- the byte length of H's blocks, and the bytes that ipad and opad repeat
+-- the byte lengths of H's blocks and of its outputs, and the bytes that ipad and opad repeat
 abbrev pub B : ℕ
 B = 64
+
+abbrev pub L : ℕ
+L = 32
 
 abbrev pub ipad : ℕ
 ipad = 0x36
@@ -36,3 +39,15 @@ masked p key = map (λ k. bitXor k p) (padded key)
 -- (3), (4), (6) and (7): H (K XOR opad, H (K XOR ipad, text))
 unfoldable pub hmac : List ℕ → List ℕ → List ℕ
 hmac key text = sha256 (masked opad key ++ sha256 (masked ipad key ++ text))
+
+-- section 5: the leftmost bytes of an output
+abbrev pub truncated : ℕ → List ℕ → List ℕ
+truncated t output = take t output
+
+-- an output cut to t bytes in the place of a whole one: zeros behind them, up to L
+unfoldable pub cut : ℕ → List ℕ → List ℕ
+cut t output = truncated t output ++ replicate (L - t) 0
+
+-- the tag of a text, of as many bytes as are wanted
+unfoldable pub tagged : List ℕ → List ℕ → ℕ → List ℕ
+tagged key text wanted = cut wanted (hmac key text)

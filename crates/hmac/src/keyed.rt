@@ -16,6 +16,8 @@ pub struct Hmac {
 
 const BLOCK_LENGTH: usize = 64;
 
+const OUTPUT_LENGTH: usize = 32;
+
 const IPAD: u8 = 0x36;
 
 const OPAD: u8 = 0x5c;
@@ -46,26 +48,42 @@ impl Hmac {
         }
     }
 
-    // The tag of the message that the state stands for.
-    pub fn finish(self) -> [u8; 32]
-        ensures { λ r. ⌜ ((key m : List ℕ) → Keyed self key m → r ≡ Rfc2104.hmac key m) ⌝ }
+    // The tag of the message that the state stands for, of as many bytes as are wanted, zeros behind them.
+    pub fn finish(self, wanted: usize) -> [u8; 32]
+        ensures { λ r. ⌜ ((key m : List ℕ) → Keyed self key m → r ≡ Rfc2104.tagged key m wanted) ⌝ }
     {
         let inner = self.inner;
         let outer = self.outer;
         let digest = inner.finish();
-        outer.finish_with(digest)
+        cut(outer.finish_with(digest), wanted)
     }
 }
 
-// The tag of a message that is handed whole: no keyed state is laid out in between.
-pub fn tag(key: &[u8], message: &[u8]) -> [u8; 32]
-    ensures { λ r. ⌜ r ≡ Rfc2104.hmac (now (key .entry)) (now (message .entry)) ⌝ }
+// The same of a message that is handed whole: no keyed state is laid out in between.
+pub fn tag(key: &[u8], message: &[u8], wanted: usize) -> [u8; 32]
+    ensures { λ r. ⌜ r ≡ Rfc2104.tagged (now (key .entry)) (now (message .entry)) wanted ⌝ }
 {
     let block = padded(key);
     let inner = masked(block, IPAD);
     let digest = Sha256::of_block(inner).update(message).finish();
     let outer = masked(block, OPAD);
-    Sha256::of_block(outer).finish_with(digest)
+    cut(Sha256::of_block(outer).finish_with(digest), wanted)
+}
+
+// The first bytes of an output, as many as are wanted, and zeros in the places behind them. All 32 are the output itself.
+fn cut(output: [u8; 32], wanted: usize) -> [u8; 32]
+    ensures { λ r. ⌜ r ≡ Rfc2104.cut wanted output ⌝ }
+{
+    if OUTPUT_LENGTH <= wanted {
+        return output;
+    }
+    let mut t = [0; 32];
+    let mut i = 0;
+    while i < wanted {
+        t[i] = output[i];
+        i += 1;
+    }
+    t
 }
 
 // The key, hashed where it is longer than a block, with zeros behind it.

@@ -4,13 +4,13 @@ use mathlib.Core.List.{List}
 use Prim.Native.Nat.{ℕ}
 use Rattle.compression.specs.Fips.{sha256}
 use Rattle.sha256.specs.Call.{within, refusalIf, bytesIf}
-use Rattle.hmac.specs.Rfc2104.{hmac}
-use Rattle.hmac.specs.Call.{both}
+use Rattle.hmac.specs.Rfc2104.{tagged}
+use Rattle.hmac.specs.Call.{both, bothWithin, mayBeWanted, refusalIf as tagRefusalIf}
 
 pub record Hashed (message : List ℕ) (r : ℕ) (digest : List ℕ) : Type 0 where
   pub refusal : r ≡ refusalIf (within message)
   pub bytes : digest ≡ bytesIf (within message) (sha256 message)
 
-pub record Tagged (key message : List ℕ) (r : ℕ) (tag : List ℕ) : Type 0 where
-  pub refusal : r ≡ refusalIf (both (within key) (within message))
-  pub bytes : tag ≡ bytesIf (both (within key) (within message)) (hmac key message)
+pub record Tagged (key message : List ℕ) (wanted r : ℕ) (tag : List ℕ) : Type 0 where
+  pub refusal : r ≡ tagRefusalIf (bothWithin key message) (mayBeWanted wanted)
+  pub bytes : tag ≡ bytesIf (both (bothWithin key message) (mayBeWanted wanted)) (tagged key message wanted)

@@ -5,7 +5,8 @@ ghost use Rattle.packed.specs.Surface.{Opened, Appended, Closed};
 ghost use Rattle.packed.specs.Audited.{Audited};
 ghost use Rattle.packed.specs.LookedUp.{LookedUp, Located};
 ghost use Rattle.packed.specs.Plans.{RatchetPlanned};
-ghost use Rattle.sha256.specs.Call.{refusalOf};
+ghost use Rattle.sha256.specs.Call as Hash;
+ghost use Rattle.hmac.specs.Call as Tag;
 use packed::auditing::audit_packed;
 use packed::looking::data_at_packed;
 use packed::looking::item_at_packed;
@@ -14,7 +15,6 @@ use packed::sealing::append_packed;
 use packed::sealing::close_packed;
 use packed::sealing::open_packed;
 use scheme::State;
-use sha256::Outcome;
 
 // The digest of the message and 0, or 32 zeros and refusal 1 where the message is too long.
 #[no_mangle]
@@ -28,25 +28,42 @@ pub extern "C" fn pahyndoi_sha256(message: &[u8], digest: &mut [u8; 32]) -> u32
     number(outcome)
 }
 
-// The tag of the message under the key and 0, or 32 zeros and refusal 1 where one of them is too long.
+// The tag of the message under the key, of as many bytes as are wanted with zeros behind them, and 0; or 32 zeros and refusal 1 where key or
+// message is too long, else 26 where the length wanted is outside 16 to 32.
 #[no_mangle]
-pub extern "C" fn pahyndoi_hmac_sha256(key: &[u8], message: &[u8], tag: &mut [u8; 32]) -> u32
-    ensures { λ r. ⌜ Tagged (now (key .entry)) (now (message .entry)) r (now (tag .exit)) ⌝ }
+pub extern "C" fn pahyndoi_hmac_sha256(
+    key: &[u8],
+    message: &[u8],
+    wanted: usize,
+    tag: &mut [u8; 32],
+) -> u32
+    ensures { λ r. ⌜ Tagged (now (key .entry)) (now (message .entry)) wanted r (now (tag .exit)) ⌝ }
 {
-    let answer = hmac::hmac(key, message);
+    let answer = hmac::hmac(key, message, wanted);
     let bytes = answer.bytes;
     let outcome = answer.outcome;
     *tag = bytes;
-    number(outcome)
+    tag_number(outcome)
 }
 
-// The refusal's number, 0 with none.
-fn number(outcome: Outcome) -> u32
-    ensures { λ r. ⌜ r ≡ refusalOf outcome ⌝ }
+// The number of the hash's refusal, 0 with none.
+fn number(outcome: sha256::Outcome) -> u32
+    ensures { λ r. ⌜ r ≡ Hash.refusalOf outcome ⌝ }
 {
     match outcome {
-        Outcome::Done => 0,
-        Outcome::TooLong => 1,
+        sha256::Outcome::Done => 0,
+        sha256::Outcome::TooLong => 1,
+    }
+}
+
+// The number of the tag's refusal, 0 with none.
+fn tag_number(outcome: hmac::Outcome) -> u32
+    ensures { λ r. ⌜ r ≡ Tag.refusalOf outcome ⌝ }
+{
+    match outcome {
+        hmac::Outcome::Done => 0,
+        hmac::Outcome::TooLong => 1,
+        hmac::Outcome::BadTagLength => 26,
     }
 }
 

@@ -5,13 +5,13 @@ pub mod state;
 
 use state::Sha256;
 
-// How a call went: done, or refused because a message or a key is too long.
+// How a call went: done, or refused because the message is too long.
 pub enum Outcome {
     Done,
     TooLong,
 }
 
-// The outcome, and the 32 bytes of a digest or a tag, zeros where the call is refused.
+// The outcome, and the 32 bytes of the digest, zeros where the call is refused.
 pub struct Answer {
     pub outcome: Outcome,
     pub bytes: [u8; 32],

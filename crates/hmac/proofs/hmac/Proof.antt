@@ -1,11 +1,8 @@
--- `hmac::hmac` meets its contract: each refusal is its test's, and the tag is HMAC's.
-use mathlib.Core.Path.{_≡_, _∙_, ap}
-use mathlib.Core.Bool.{false}
+-- `hmac::hmac` meets its contract: each refusal is its test's, and the tag is HMAC's, cut.
+use mathlib.Core.Path.{refl}
 use native.Mathlib.Omega.{arith}
-use lib.ListN.{length}
-use borrow.Author.Tests.{le-leb, lt-leb}
-use Rattle.sha256.specs.Call.{lengthLimit, refusalOf, within}
 use borrow.Author.Needs.{needs}
+use Rattle.hmac.proofs.Answers.{too-long, bad-length, given}
 use Rattle.hmac.proofs.hmac.Statement.{statement}
 use Rattle.hmac.proofs.hmac.Tie as tie
 
@@ -13,31 +10,31 @@ refused-requires : tie.Need-refused-requires
 refused-requires c κs = search needs
 
 returns : tie.Need-returns
-returns c =
-    let key = c .before .before .before .before .args .key .now in
-    let long : within key ≡ false = lt-leb (length key) lengthLimit (omega arith) in
-    record { refusal = ap refusalOf (c .refused .ensures .0) ∙ rw long; bytes = c .refused .ensures .1 ∙ rw long }
+returns c = too-long _ _ _ _ (λ h. omega arith) (c .refused .ensures)
 
 refused-requires-2 : tie.Need-refused-requires-2
 refused-requires-2 c κs = search needs
 
 returns-2 : tie.Need-returns-2
-returns-2 c =
-    let taken = le-leb _ _ (c .before .before .if1 .left) in
-    let long = lt-leb _ _ (c .before .if2 .taken) in
-    record {
-      refusal = ap refusalOf (c .refused2 .ensures .0) ∙ rw (taken, long);
-      bytes = c .refused2 .ensures .1 ∙ rw (taken, long);
-    }
+returns-2 c = too-long _ _ _ _ (λ h. omega arith) (c .refused2 .ensures)
+
+refused-requires-3 : tie.Need-refused-requires-3
+refused-requires-3 c κs = search needs
+
+returns-3 : tie.Need-returns-3
+returns-3 c = bad-length _ _ _ _ (omega arith) (omega arith) (λ h. omega arith) (c .refused3 .ensures)
+
+refused-requires-4 : tie.Need-refused-requires-4
+refused-requires-4 c κs = search needs
+
+returns-4 : tie.Need-returns-4
+returns-4 c = bad-length _ _ _ _ (omega arith) (omega arith) (λ h. omega arith) (c .refused4 .ensures)
 
 tag-requires : tie.Need-tag-requires
 tag-requires c κs = search needs
 
-returns-3 : tie.Need-returns-3
-returns-3 c =
-    let taken = le-leb _ _ (c .before .before .if1 .left) in
-    let within = le-leb _ _ (c .before .if2 .left) in
-    record { refusal = rw (taken, within); bytes = rw (taken, within) (c .tag .ensures) }
+returns-5 : tie.Need-returns-5
+returns-5 c = given _ _ _ _ (omega arith) (omega arith) (omega arith) (omega arith) refl (c .tag .ensures)
 
 pub hmac-spec : {M : Type 1} → statement M
 hmac-spec =
@@ -47,5 +44,9 @@ hmac-spec =
     returns
     refused-requires-2
     returns-2
+    refused-requires-3
+    returns-3
+    refused-requires-4
+    returns-4
     tag-requires
-    returns-3)
+    returns-5)
