@@ -1,18 +1,17 @@
 // Runs the published examples through the public calls and writes one line each: name, refusal's number, bytes in hexadecimal.
 // The stored output is compared with it. Sources: NIST's examples for FIPS 180-4 with SHA-256 (one block, two blocks and
-// the additional ones within the limit), RFC 4231 for HMAC-SHA-256 (all seven cases, of case 5 the first 16 bytes), and for the lengths around a block's end
-// the digests that Python's hashlib (OpenSSL) gave for the bytes 0, 1, 2, ..
+// the additional ones within the limit), RFC 4231 for HMAC-SHA-256 (all seven cases, case 5 truncated to 128 bits, and case 2 with tags of
+// other lengths), and for the lengths around a block's end the digests that Python's hashlib (OpenSSL) gave for the bytes 0, 1, 2, ..
 ghost use mathlib.Core.Path.{_≡_};
 ghost use lib.ListN.{length};
 use libc::STDOUT_FILENO;
-use sha256::Answer;
-use sha256::Outcome;
 use sha256::state::Sha256;
 
 fn main() {
     nist();
     lengths();
     rfc4231();
+    tag_lengths();
 }
 
 fn nist() {
@@ -42,11 +41,7 @@ fn million(name: &[u8], part: [u8; 1000]) {
         state = state.update(&part);
         done += 1;
     }
-    let answer = Answer {
-        outcome: Outcome::Done,
-        bytes: state.finish(),
-    };
-    line(name, answer, 32);
+    line(name, b" 0 ", state.finish());
 }
 
 // The lengths at which padding changes its form, on the bytes 0, 1, 2, ..
@@ -71,7 +66,7 @@ fn front(name: &[u8], n: usize) {
 
 fn rfc4231() {
     tag(b"case-1", &[0x0b; 20], b"Hi There", 32);
-    tag(b"case-2", b"Jefe", b"what do ya want for nothing?", 32);
+    case2(b"case-2", 32);
     tag(b"case-3", &[0xaa; 20], &[0xdd; 50], 32);
     case4();
     tag(b"case-5", &[0x0c; 20], b"Test With Truncation", 16);
@@ -94,6 +89,22 @@ fn case4() {
     tag(b"case-4", &bytes[1..26], &[0xcd; 50], 32);
 }
 
+// Tags of case 2 that are cut, and lengths on both sides of 16 and of 32.
+fn tag_lengths() {
+    case2(b"wanted-0", 0);
+    case2(b"wanted-15", 15);
+    case2(b"wanted-16", 16);
+    case2(b"wanted-17", 17);
+    case2(b"wanted-31", 31);
+    case2(b"wanted-32", 32);
+    case2(b"wanted-33", 33);
+    case2(b"wanted-48", 48);
+}
+
+fn case2(name: &[u8], wanted: usize) {
+    tag(name, b"Jefe", b"what do ya want for nothing?", wanted);
+}
+
 fn counting() -> [u8; 128]
     ensures { λ r. ⌜ length r ≡ 128 ⌝ }
 {
@@ -105,26 +116,31 @@ fn counting() -> [u8; 128]
 }
 
 fn hash(name: &[u8], message: &[u8]) {
-    line(name, sha256::sha256(message), 32);
+    let answer = sha256::sha256(message);
+    let bytes = answer.bytes;
+    let outcome = answer.outcome;
+    match outcome {
+        sha256::Outcome::Done => line(name, b" 0 ", bytes),
+        sha256::Outcome::TooLong => line(name, b" 1 ", bytes),
+    }
 }
 
 fn tag(name: &[u8], key: &[u8], message: &[u8], wanted: usize) {
-    line(name, hmac::hmac(key, message), wanted);
+    let answer = hmac::hmac(key, message, wanted);
+    let bytes = answer.bytes;
+    let outcome = answer.outcome;
+    match outcome {
+        hmac::Outcome::Done => line(name, b" 0 ", bytes),
+        hmac::Outcome::TooLong => line(name, b" 1 ", bytes),
+        hmac::Outcome::BadTagLength => line(name, b" 26 ", bytes),
+    }
 }
 
-fn line(name: &[u8], answer: Answer, wanted: usize) {
-    let outcome = answer.outcome;
-    let bytes = answer.bytes;
+fn line(name: &[u8], refusal: &[u8], bytes: [u8; 32]) {
     io::write_all(STDOUT_FILENO, name);
-    match outcome {
-        Outcome::Done => io::write_all(STDOUT_FILENO, b" 0 "),
-        Outcome::TooLong => io::write_all(STDOUT_FILENO, b" 1 "),
-    }
-    ;
+    io::write_all(STDOUT_FILENO, refusal);
     for i in 0..32 {
-        if i < wanted {
-            hex(bytes[i]);
-        }
+        hex(bytes[i]);
     }
     io::write_all(STDOUT_FILENO, b"\n");
 }

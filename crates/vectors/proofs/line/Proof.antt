@@ -1,37 +1,22 @@
 -- `vectors::line` is safe and ends: the loop's invariant bounds the index.
 use mathlib.Core.Path.{_≡_}
-use Prim.Native.Nat.{ℕ, _-_, _≤_}
+use Prim.Native.Nat.{_-_, _≤_}
 use lib.ListN.{length}
 use borrow.Author.Needs.{needs}
 use Rattle.vectors.proofs.line.Statement.{statement}
 use Rattle.vectors.proofs.line.Tie as tie
 
 abbrev Inv-loop : tie.InvT-loop
-Inv-loop name wanted bytes i₀ t9 i = (i ≤ 32) × (length t9 ≡ 1)
+Inv-loop name refusal bytes i₀ t6 i = (i ≤ 32) × (length t6 ≡ 1)
 
 abbrev μ-loop : tie.MeasureT-loop
-μ-loop name wanted bytes i₀ t9 i = 32 - i
+μ-loop name refusal bytes i₀ t6 i = 32 - i
 
 write-all-requires : tie.Need-write-all-requires Inv-loop μ-loop
 write-all-requires c κs = search needs
 
-enum-told : tie.Need-enum-told Inv-loop μ-loop
-enum-told c = search needs
-
-slice-aggregate-write-all : tie.Need-slice-aggregate-write-all Inv-loop μ-loop
-slice-aggregate-write-all c = search needs
-
 write-all-requires-2 : tie.Need-write-all-requires-2 Inv-loop μ-loop
 write-all-requires-2 c κs = search needs
-
-enum-told-2 : tie.Need-enum-told-2 Inv-loop μ-loop
-enum-told-2 c = search needs
-
-slice-aggregate-write-all-2 : tie.Need-slice-aggregate-write-all-2 Inv-loop μ-loop
-slice-aggregate-write-all-2 c = search needs
-
-write-all-requires-3 : tie.Need-write-all-requires-3 Inv-loop μ-loop
-write-all-requires-3 c κs = search needs
 
 loop-holds : tie.Need-loop-holds Inv-loop μ-loop
 loop-holds c = search needs
@@ -51,11 +36,11 @@ loop-less c = search needs
 loop-again : tie.Need-loop-again Inv-loop μ-loop
 loop-again c = search needs
 
-slice-aggregate-write-all-3 : tie.Need-slice-aggregate-write-all-3 Inv-loop μ-loop
-slice-aggregate-write-all-3 c = search needs
+slice-aggregate-write-all : tie.Need-slice-aggregate-write-all Inv-loop μ-loop
+slice-aggregate-write-all c = search needs
 
-write-all-requires-4 : tie.Need-write-all-requires-4 Inv-loop μ-loop
-write-all-requires-4 c κs = search needs
+write-all-requires-3 : tie.Need-write-all-requires-3 Inv-loop μ-loop
+write-all-requires-3 c κs = search needs
 
 returns : tie.Need-returns Inv-loop μ-loop
 returns c = search needs
@@ -67,18 +52,13 @@ line-spec =
     Inv-loop
     μ-loop
     write-all-requires
-    enum-told
-    slice-aggregate-write-all
     write-all-requires-2
-    enum-told-2
-    slice-aggregate-write-all-2
-    write-all-requires-3
     loop-holds
     array-read-hex
     hex-requires
     add-i
     loop-less
     loop-again
-    slice-aggregate-write-all-3
-    write-all-requires-4
+    slice-aggregate-write-all
+    write-all-requires-3
     returns)

@@ -1,14 +1,16 @@
 -- `vectors::million` is safe and ends: the loop counts up to a thousand.
-use Prim.Native.Nat.{ℕ, _-_, _≤_}
+use mathlib.Core.Path.{_≡_}
+use Prim.Native.Nat.{_-_, _≤_}
+use lib.ListN.{length}
 use borrow.Author.Needs.{needs}
 use Rattle.vectors.proofs.million.Statement.{statement}
 use Rattle.vectors.proofs.million.Tie as tie
 
 abbrev Inv-loop : tie.InvT-loop
-Inv-loop name part state₀ done₀ state done = done ≤ 1000
+Inv-loop name part state₀ done₀ t6 state done = (done ≤ 1000) × (length t6 ≡ 3)
 
 abbrev μ-loop : tie.MeasureT-loop
-μ-loop name part state₀ done₀ state done = 1000 - done
+μ-loop name part state₀ done₀ t6 state done = 1000 - done
 
 new-requires : tie.Need-new-requires Inv-loop μ-loop
 new-requires c κs = search needs
@@ -30,6 +32,9 @@ loop-less c = search needs
 
 loop-again : tie.Need-loop-again Inv-loop μ-loop
 loop-again c = search needs
+
+slice-aggregate-line : tie.Need-slice-aggregate-line Inv-loop μ-loop
+slice-aggregate-line c = search needs
 
 finish-requires : tie.Need-finish-requires Inv-loop μ-loop
 finish-requires c κs = search needs
@@ -53,6 +58,7 @@ million-spec =
     add-done
     loop-less
     loop-again
+    slice-aggregate-line
     finish-requires
     line-requires
     returns)
