@@ -11,6 +11,7 @@ mod planning;
 mod refusal;
 mod sealing;
 mod store;
+mod tag;
 #[cfg(test)]
 mod tests;
 
@@ -22,11 +23,15 @@ pub use lookup::Audited;
 pub use planning::{chunks_needed, least_ratchet};
 pub use sealing::{State, append, close, open};
 pub use store::{Header, burned_at_front, chunk, is_burned};
+pub use tag::hmac_sha256;
 
 use crate::plain;
 
-/// The length in bytes of a chunk, a key and a tag.
+/// The length in bytes of a chunk and a key.
 pub const KEY_LENGTH: usize = 32;
+
+/// The length in bytes of a whole tag, as an item has it.
+pub const TAG_LENGTH: usize = 32;
 
 /// The most phases that a store can name.
 pub const PHASE_LIMIT: usize = 8;
@@ -38,10 +43,10 @@ pub const LOG_CAPACITY: usize = 8192;
 pub const DATA_LIMIT: usize = 512;
 
 /// HMAC-SHA-256 of a message given in parts, under the key given first.
-pub type Hmac = fn(&[u8], &[&[u8]]) -> [u8; KEY_LENGTH];
+pub type Hmac = fn(&[u8], &[&[u8]]) -> [u8; TAG_LENGTH];
 
 /// The HMAC of [`plain`].
-pub fn plain_hmac(key: &[u8], message_parts: &[&[u8]]) -> [u8; KEY_LENGTH] {
+pub fn plain_hmac(key: &[u8], message_parts: &[&[u8]]) -> [u8; TAG_LENGTH] {
     plain::hmac_sha256(key, &message_parts.concat())
 }
 

@@ -1,5 +1,6 @@
 //! The numbers of the refusals, in checking order.
 
+pub(super) const TOO_LONG: u32 = 1;
 pub(super) const STORE_MALFORMED: u32 = 2;
 pub(super) const LOG_MEMORY_LENGTH: u32 = 3;
 pub(super) const BURNED_AFTER_UNBURNED: u32 = 4;
@@ -24,3 +25,4 @@ pub(super) const ITEMS_MISSING: u32 = 22;
 pub(super) const LOG_UNCOVERED: u32 = 23;
 pub(super) const NO_SUCH_BYTE: u32 = 24;
 pub(super) const BAD_PLAN: u32 = 25;
+pub(super) const BAD_TAG_LENGTH: u32 = 26;

@@ -7,6 +7,7 @@ mod lookup;
 mod planning;
 mod rows;
 mod sealing;
+mod tag;
 
 use super::*;
 

@@ -2,7 +2,7 @@
 
 use super::*;
 
-const TAG: [u8; KEY_LENGTH] = [0xaa; KEY_LENGTH];
+const TAG: [u8; TAG_LENGTH] = [0xaa; TAG_LENGTH];
 const ITEM_7: Position = Position {
     chunk: 2,
     offset: 1,
