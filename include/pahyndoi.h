@@ -1,8 +1,8 @@
 /*
- * Sealed phase logs: SHA-256 (FIPS 180-4), HMAC-SHA-256 (RFC 2104, FIPS
- * 198-1), the sealer that opens a key store, appends and closes, the audit,
- * which item sealed a byte, and the ratchet that a card needs. The archive asks
- * for memcpy and memset alone, and allocates nothing.
+ * Sealed phase logs: SHA-256 (FIPS 180-4), HMAC-SHA-256 whole or cut (RFC 2104,
+ * FIPS 198-1), the sealer that opens a key store, appends and closes, the
+ * audit, which item sealed a byte, and the ratchet that a card needs. The
+ * archive asks for memcpy and memset alone, and allocates nothing.
  */
 
 #ifndef PAHYNDOI_H
@@ -20,7 +20,14 @@ extern "C" {
 /* The longest message, and the longest key, in bytes. */
 #define PAHYNDOI_LENGTH_LIMIT 1048576
 
-/* What the hash and the tag call answer. */
+/* The fewest and the most bytes of a tag that may be wanted. */
+#define PAHYNDOI_SHORTEST_TAG 16
+#define PAHYNDOI_LONGEST_TAG 32
+
+/*
+ * What the hash and the tag call answer. The tag call may also answer
+ * PAHYNDOI_BAD_TAG_LENGTH, so compare its answer with PAHYNDOI_DONE.
+ */
 #define PAHYNDOI_DONE 0
 #define PAHYNDOI_REFUSED 1
 
@@ -40,25 +47,34 @@ uint32_t pahyndoi_sha256(const uint8_t *message, size_t message_length,
                          uint8_t digest[32]);
 
 /*
- * Writes the HMAC-SHA-256 tag of the message under the key to the 32 bytes at
- * tag and answers 0. A key of more than 64 bytes is hashed first, as RFC 2104
- * says; an empty key is taken as it is.
+ * Writes the first bytes of the HMAC-SHA-256 of the message under the key to
+ * tag, as many as are wanted, from 16 to 32, and zeros behind them, so that all
+ * 32 bytes at tag are written; and answers 0. 32 are the whole HMAC; fewer are
+ * the leftmost bytes of it, as RFC 2104, section 5, allows. A key of more than
+ * 64 bytes is hashed first, as RFC 2104 says; an empty key is taken as it is.
  *
- * A message or a key of more than 1,048,576 bytes is refused: the call
- * answers 1 and the 32 bytes at tag are zeros. Check the answer before using
- * them.
+ * Refused in this order: 1, 26. A message or a key of more than 1,048,576
+ * bytes gives 1; if neither is so long, a value of wanted below 16 or above 32
+ * gives 26. The call answers this refusal, and the 32 bytes at tag are zeros.
+ * Check the answer before using them.
+ *
+ * 16 is the least that RFC 2104 recommends: not less than half the length of
+ * the hash, to match the birthday bound, and not less than 80 bits. Half of
+ * SHA-256's 256 bits is 128 bits, the greater of the two.
  *
  * key must be readable for key_length bytes, message for message_length, and
- * tag writable for 32. None may be a null pointer, even with length 0. tag
- * must overlap neither key nor message. No alignment is asked of any. Key and
- * message are only read. The call keeps no pointer and no state, and may run
- * in several threads.
+ * tag writable for 32, however few are wanted. None may be a null pointer, even
+ * with length 0. tag must overlap neither key nor message. No alignment is
+ * asked of any. Key and message are only read. The call keeps no pointer and no
+ * state, and may run in several threads.
  *
- * To verify a tag, compare all 32 bytes in constant time, not with memcmp.
+ * To verify a tag, compare the wanted bytes, all of them, in constant time, not
+ * with memcmp. The verifier fixes how many they are: never take a length that
+ * comes with the message, for a forger would choose the shortest.
  */
 uint32_t pahyndoi_hmac_sha256(const uint8_t *key, size_t key_length,
                               const uint8_t *message, size_t message_length,
-                              uint8_t tag[32]);
+                              size_t wanted, uint8_t tag[32]);
 
 /* ---- Sealer, audit, lookups and plans ---- */
 
@@ -159,7 +175,9 @@ enum pahyndoi_refusal {
     PAHYNDOI_NO_SUCH_BYTE = 24,
     /* The plan has more than 64 counts, a count above 65,536, or a chunk count
        outside 1 to 1,024. */
-    PAHYNDOI_BAD_PLAN = 25
+    PAHYNDOI_BAD_PLAN = 25,
+    /* A tag of fewer than 16 or more than 32 bytes is wanted. */
+    PAHYNDOI_BAD_TAG_LENGTH = 26
 };
 
 /*
@@ -336,7 +354,8 @@ uint64_t pahyndoi_least_ratchet(const uint32_t *counts, size_t counts_count,
  *   append, close refused  the key that the state holds;
  *   audit, item_at,        the auditor's keys of the items that the audit came
  *   data_at                to, and the key due after them;
- *   hmac_sha256            the key, or its digest if it is over 64 bytes, and
+ *   hmac_sha256            the key, or its digest if it is over 64 bytes, the
+ *                          whole tag, also where less of it is wanted, and
  *                          what sha256 leaves;
  *   sha256                 the end of the message, and hash values on the way.
  *

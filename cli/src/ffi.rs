@@ -11,6 +11,7 @@ unsafe extern "C" {
         key_length: usize,
         message: *const u8,
         message_length: usize,
+        wanted: usize,
         tag: *mut u8,
     ) -> u32;
     fn pahyndoi_open(
@@ -278,9 +279,15 @@ pub fn sha256_raw(message: &[u8], digest: &mut [u8; DIGEST_LENGTH]) -> u32 {
     unsafe { pahyndoi_sha256(message.as_ptr(), message.len(), digest.as_mut_ptr()) }
 }
 
-/// Writes the tag and gives the call's number: 0, or 1 when the key or the
-/// message is refused; then the tag is 32 zeros.
-pub fn hmac_sha256_raw(key: &[u8], message: &[u8], tag: &mut [u8; DIGEST_LENGTH]) -> u32 {
+/// Writes the wanted number of bytes from the tag's front, zeros behind them,
+/// and gives the call's number: 0, or 1 when the key or the message is refused
+/// and 26 when the wanted number is; then the tag is 32 zeros.
+pub fn hmac_sha256_raw(
+    key: &[u8],
+    message: &[u8],
+    wanted: usize,
+    tag: &mut [u8; DIGEST_LENGTH],
+) -> u32 {
     // SAFETY: both slices are readable for their lengths and their pointers
     // are never null; the array is writable for 32 bytes and, being borrowed
     // mutably, overlaps neither slice.
@@ -290,6 +297,7 @@ pub fn hmac_sha256_raw(key: &[u8], message: &[u8], tag: &mut [u8; DIGEST_LENGTH]
             key.len(),
             message.as_ptr(),
             message.len(),
+            wanted,
             tag.as_mut_ptr(),
         )
     }

@@ -1,8 +1,8 @@
 //! The calls of the static library `pahyndoi`, each of them proved: SHA-256
-//! (FIPS 180-4), HMAC-SHA-256 (RFC 2104), the sealing of logs ([`open`],
-//! [`append`], [`close`]), the [`audit`] of what is presented, which item
-//! sealed a byte of it ([`item_at`], [`data_at`]), and the ratchet that a card
-//! needs ([`least_ratchet`]).
+//! (FIPS 180-4), HMAC-SHA-256 whole or cut (RFC 2104), the sealing of logs
+//! ([`open`], [`append`], [`close`]), the [`audit`] of what is presented, which
+//! item sealed a byte of it ([`item_at`], [`data_at`]), and the ratchet that a
+//! card needs ([`least_ratchet`]).
 //!
 //! The README has an example, which runs as a test of this package.
 
@@ -21,7 +21,7 @@ pub use ffi::{
     State, append_raw, audit_raw, close_raw, data_at_raw, hmac_sha256_raw, item_at_raw,
     least_ratchet_raw, open_raw, sha256_raw,
 };
-pub use hash::{DIGEST_LENGTH, LENGTH_LIMIT, hmac_sha256, sha256};
+pub use hash::{DIGEST_LENGTH, LENGTH_LIMIT, LONGEST_TAG, SHORTEST_TAG, hmac_sha256, sha256};
 pub use lookup::{data_at, item_at};
 pub use planning::least_ratchet;
 pub use refusal::Refusal;

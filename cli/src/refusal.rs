@@ -3,13 +3,13 @@
 use std::error::Error;
 use std::fmt;
 
-/// The number, 1 to 25, of the first rule by which a call refused its input.
+/// The number, 1 to 26, of the first rule by which a call refused its input.
 #[derive(Clone, Copy, Debug, PartialEq, Eq)]
 pub struct Refusal(pub u32);
 
 /// What each rule says, from number 1 on, in checking order: the words of
 /// `docs/FORMAT.md`, 9.
-const MEANINGS: [&str; 25] = [
+const MEANINGS: [&str; 26] = [
     "a message or a key handed to the hash has more than 1,048,576 bytes",
     "the store lacks a whole header of kind 1, has phases, chunk count or ratchet out of \
      range, or is not as long as its header says",
@@ -39,11 +39,12 @@ const MEANINGS: [&str; 25] = [
     "the phase is not one of the store's, or the offset is not below the phase's length",
     "the plan has more than 64 counts, a count above 65,536, or a chunk count outside 1 to \
      1,024",
+    "a tag of fewer than 16 or more than 32 bytes is wanted",
 ];
 
 impl Refusal {
     /// What the rule of this number says, in words. No call answers a number
-    /// outside 1 to 25; its meaning is "unknown rule".
+    /// outside 1 to 26; its meaning is "unknown rule".
     pub fn meaning(self) -> &'static str {
         let index = self.0.checked_sub(1).map(|index| index as usize);
         let meaning = index.and_then(|index| MEANINGS.get(index));
@@ -65,7 +66,7 @@ mod tests {
 
     #[test]
     fn every_number_has_a_meaning_of_its_own() {
-        let meanings: Vec<&str> = (1..=25).map(|number| Refusal(number).meaning()).collect();
+        let meanings: Vec<&str> = (1..=26).map(|number| Refusal(number).meaning()).collect();
         for (index, meaning) in meanings.iter().enumerate() {
             assert_ne!(*meaning, "unknown rule");
             assert!(!meanings[..index].contains(meaning));
@@ -74,7 +75,7 @@ mod tests {
 
     #[test]
     fn other_numbers_have_none() {
-        for number in [0, 26, u32::MAX] {
+        for number in [0, 27, u32::MAX] {
             assert_eq!(Refusal(number).meaning(), "unknown rule");
         }
     }

@@ -3,7 +3,7 @@
 use std::collections::BTreeMap;
 
 use pahyndoi::model::ratchet_message;
-use pahyndoi::{State, append_raw, audit_raw, close_raw, hmac_sha256, open_raw};
+use pahyndoi::{LONGEST_TAG, State, append_raw, audit_raw, close_raw, hmac_sha256, open_raw};
 
 use crate::page;
 
@@ -33,7 +33,7 @@ fn state_bytes(state: &State) -> Vec<u8> {
 }
 
 fn tag(key: &[u8], message: &[u8]) -> Vec<u8> {
-    let tag = hmac_sha256(key, message).expect("short enough");
+    let tag = hmac_sha256(key, message, LONGEST_TAG).expect("short enough");
     tag.to_vec()
 }
 

@@ -8,6 +8,16 @@ use crate::page;
 const REFUSALS: u32 = 9;
 const HEADER: &str = include_str!("../../../include/pahyndoi.h");
 
+/// The calls with a list of rules in the header, and their names on the page.
+const LISTED: [(&str, &str); 6] = [
+    ("hmac_sha256", "HMAC"),
+    ("open", "open"),
+    ("append", "append"),
+    ("close", "close"),
+    ("audit", "audit"),
+    ("least_ratchet", "least_ratchet"),
+];
+
 /// The rows of the page's list: number, words, condition, calls, item.
 fn rows() -> Vec<Vec<&'static str>> {
     let heading = "| rule | in words | exactly | checked by | item named |";
@@ -45,7 +55,7 @@ fn listed_in_the_header() -> Vec<(String, Vec<u32>)> {
     let lists = HEADER.split("Refused in this order: ").skip(1);
     lists
         .map(|text| {
-            let (_, declaration) = text.split_once("uint64_t pahyndoi_").expect("a call");
+            let (_, declaration) = text.split_once("_t pahyndoi_").expect("a call");
             let (call, _) = declaration.split_once('(').expect("its name");
             let sentence = text.split(['(', '.']).next().expect("a list");
             (call.to_string(), numbers(sentence))
@@ -77,7 +87,7 @@ fn page_header_and_tool_say_the_same() {
         .iter()
         .map(|row| (number_of(row), row[1].to_string()))
         .collect();
-    let tool: Vec<(u32, String)> = (1..=25)
+    let tool: Vec<(u32, String)> = (1..=26)
         .map(|number| (number, Refusal(number).meaning().to_string()))
         .collect();
     assert_eq!(page, tool);
@@ -89,11 +99,11 @@ fn calls_check_what_the_header_lists() {
     let rows = rows();
     let lists = listed_in_the_header();
     let calls: Vec<&str> = lists.iter().map(|(call, _)| call.as_str()).collect();
-    assert_eq!(calls, ["open", "append", "close", "audit", "least_ratchet"]);
-    for (call, listed) in lists {
-        let checked = rows.iter().filter(|row| row[3].contains(&call));
+    assert_eq!(calls, LISTED.map(|(call, _)| call));
+    for ((call, listed), (_, name)) in lists.iter().zip(LISTED) {
+        let checked = rows.iter().filter(|row| row[3].contains(name));
         let checked: Vec<u32> = checked.map(|row| number_of(row)).collect();
-        assert_eq!(checked, listed, "{call}");
+        assert_eq!(checked, *listed, "{call}");
     }
 }
 
