@@ -6,14 +6,24 @@ mod guarded;
 mod libcrypto;
 #[path = "common/random.rs"]
 mod random;
+#[path = "compare/wanted.rs"]
+mod wanted;
 
 use std::hint::black_box;
+use std::ops::RangeInclusive;
 
 use guarded::guarded;
 use pahyndoi::{LENGTH_LIMIT, Refusal, hmac_sha256_raw, plain, sha256_raw};
 use random::Random;
 
-const REFUSED: (u32, [u8; 32]) = (1, [0; 32]);
+const TOO_LONG: u32 = 1;
+const BAD_TAG_LENGTH: u32 = 26;
+
+/// Every number of bytes of a tag that may be wanted.
+const TAG_LENGTHS: RangeInclusive<usize> = 16..=32;
+
+/// Some of them, where the message or the key is long.
+const SOME_TAG_LENGTHS: [usize; 3] = [16, 25, 32];
 
 /// Lengths around the ends of blocks and of their padding.
 const EDGE_LENGTHS: [usize; 18] = [
@@ -51,38 +61,71 @@ fn compare_sha256(message: &[u8]) {
     compare_sha256_at(0, message);
 }
 
-fn compare_hmac_sha256_at(offset: usize, key: &[u8], message: &[u8]) {
+/// The tag's bytes from the front, as many as wanted, and zeros behind them.
+fn front(tag: &[u8; 32], wanted: usize) -> [u8; 32] {
+    std::array::from_fn(|index| if index < wanted { tag[index] } else { 0 })
+}
+
+/// Each of these numbers of bytes wanted, the tag written at a shifted address.
+fn compare_hmac_sha256_at(
+    offset: usize,
+    key: &[u8],
+    message: &[u8],
+    tag_lengths: impl IntoIterator<Item = usize>,
+) {
     let before = (key.to_vec(), message.to_vec());
-    let answer = guarded(offset, |tag| hmac_sha256_raw(key, message, tag));
+    let by_plain_rust = plain::hmac_sha256(&before.0, &before.1);
+    let by_libcrypto = libcrypto::hmac_sha256(&before.0, &before.1);
     let lengths = (key.len(), message.len());
-    assert_eq!(
-        answer,
-        (0, plain::hmac_sha256(&before.0, &before.1)),
-        "plain, key and message of {lengths:?} bytes"
-    );
-    assert_eq!(
-        answer.1,
-        libcrypto::hmac_sha256(&before.0, &before.1),
-        "libcrypto, key and message of {lengths:?} bytes"
-    );
-    assert_unchanged(key, &before.0);
-    assert_unchanged(message, &before.1);
+    for wanted in tag_lengths {
+        let answer = guarded(offset, |tag| hmac_sha256_raw(key, message, wanted, tag));
+        assert_eq!(
+            answer,
+            (0, front(&by_plain_rust, wanted)),
+            "plain, key and message of {lengths:?} bytes, {wanted} wanted"
+        );
+        assert_eq!(
+            answer.1,
+            front(&by_libcrypto, wanted),
+            "libcrypto, key and message of {lengths:?} bytes, {wanted} wanted"
+        );
+        assert_unchanged(key, &before.0);
+        assert_unchanged(message, &before.1);
+    }
 }
 
 fn compare_hmac_sha256(key: &[u8], message: &[u8]) {
-    compare_hmac_sha256_at(0, key, message);
+    compare_hmac_sha256_at(0, key, message, TAG_LENGTHS);
+}
+
+fn compare_long_hmac_sha256(key: &[u8], message: &[u8]) {
+    compare_hmac_sha256_at(0, key, message, SOME_TAG_LENGTHS);
 }
 
 fn refuse_sha256(message: &[u8]) {
     let answer = guarded(0, |digest| sha256_raw(message, digest));
-    assert_eq!(answer, REFUSED, "{} bytes", message.len());
-    assert_eq!(pahyndoi::sha256(message), Err(Refusal(1)));
+    assert_eq!(answer, (TOO_LONG, [0; 32]), "{} bytes", message.len());
+    assert_eq!(pahyndoi::sha256(message), Err(Refusal(TOO_LONG)));
 }
 
-fn refuse_hmac_sha256(key: &[u8], message: &[u8]) {
-    let answer = guarded(0, |tag| hmac_sha256_raw(key, message, tag));
-    assert_eq!(answer, REFUSED, "{} and {} bytes", key.len(), message.len());
-    assert_eq!(pahyndoi::hmac_sha256(key, message), Err(Refusal(1)));
+fn refuse_hmac_sha256(refusal: u32, key: &[u8], message: &[u8], wanted: usize) {
+    let answer = guarded(0, |tag| hmac_sha256_raw(key, message, wanted, tag));
+    assert_eq!(
+        answer,
+        (refusal, [0; 32]),
+        "{} and {} bytes, {wanted} wanted",
+        key.len(),
+        message.len()
+    );
+    let result = pahyndoi::hmac_sha256(key, message, wanted);
+    assert_eq!(result, Err(Refusal(refusal)));
+}
+
+/// Refused by 1 whatever is wanted, whether that would be refused or not.
+fn refuse_long_hmac_sha256(key: &[u8], message: &[u8]) {
+    for wanted in [0, 15, 16, 24, 32, 33, usize::MAX] {
+        refuse_hmac_sha256(TOO_LONG, key, message, wanted);
+    }
 }
 
 #[test]
@@ -160,7 +203,7 @@ fn hmac_sha256_of_random_lengths() {
         let key_length = random.up_to(LENGTH_LIMIT);
         let message_length = random.up_to(LENGTH_LIMIT);
         let key = random.bytes(key_length);
-        compare_hmac_sha256(&key, &random.bytes(message_length));
+        compare_long_hmac_sha256(&key, &random.bytes(message_length));
     }
 }
 
@@ -168,12 +211,12 @@ fn hmac_sha256_of_random_lengths() {
 fn hmac_sha256_near_the_limit() {
     let bytes = Random::new().bytes(LENGTH_LIMIT + 16);
     let (full, other_full) = (&bytes[..LENGTH_LIMIT], &bytes[16..]);
-    compare_hmac_sha256(&bytes[..32], full);
-    compare_hmac_sha256(full, &bytes[..34]);
-    compare_hmac_sha256(full, other_full);
+    compare_long_hmac_sha256(&bytes[..32], full);
+    compare_long_hmac_sha256(full, &bytes[..34]);
+    compare_long_hmac_sha256(full, other_full);
     for less in [1, 8, 9, 63, 64, 65] {
-        compare_hmac_sha256(&bytes[..32], &full[less..]);
-        compare_hmac_sha256(&full[less..], &bytes[..34]);
+        compare_long_hmac_sha256(&bytes[..32], &full[less..]);
+        compare_long_hmac_sha256(&full[less..], &bytes[..34]);
     }
 }
 
@@ -183,10 +226,10 @@ fn hmac_sha256_over_the_limit() {
     for length in LONG_LENGTHS {
         let long = &bytes[..length];
         for short in [&bytes[..0], &bytes[..32], &bytes[..LENGTH_LIMIT]] {
-            refuse_hmac_sha256(short, long);
-            refuse_hmac_sha256(long, short);
+            refuse_long_hmac_sha256(short, long);
+            refuse_long_hmac_sha256(long, short);
         }
-        refuse_hmac_sha256(long, long);
+        refuse_long_hmac_sha256(long, long);
     }
 }
 
@@ -198,7 +241,7 @@ fn hmac_sha256_unaligned() {
             let shifted = &bytes[offset..offset + length];
             compare_hmac_sha256(shifted, &bytes[..64]);
             compare_hmac_sha256(&bytes[..32], shifted);
-            compare_hmac_sha256_at(offset, &bytes[..32], &bytes[..length]);
+            compare_hmac_sha256_at(offset, &bytes[..32], &bytes[..length], TAG_LENGTHS);
         }
     }
 }
@@ -210,8 +253,8 @@ fn hmac_sha256_unaligned() {
 fn lengths_are_not_cut_to_32_bits() {
     let long = vec![0; (1 << 32) + 5];
     refuse_sha256(&long);
-    refuse_hmac_sha256(&long, b"message");
-    refuse_hmac_sha256(b"key", &long);
+    refuse_long_hmac_sha256(&long, b"message");
+    refuse_long_hmac_sha256(b"key", &long);
 }
 
 /// Key and message may be the same bytes.

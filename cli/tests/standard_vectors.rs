@@ -4,11 +4,11 @@
 #[path = "common/records.rs"]
 mod records;
 
-use pahyndoi::plain;
+use pahyndoi::{model, plain};
 use records::{bytes, message, records};
 
 type Sha256 = fn(&[u8]) -> [u8; 32];
-type HmacSha256 = fn(&[u8], &[u8]) -> [u8; 32];
+type HmacSha256 = fn(&[u8], &[u8], usize) -> [u8; 32];
 
 fn sha256_implementations() -> [(&'static str, Sha256); 2] {
     let proved: Sha256 = |message| pahyndoi::sha256(message).expect("accepted");
@@ -16,8 +16,14 @@ fn sha256_implementations() -> [(&'static str, Sha256); 2] {
 }
 
 fn hmac_sha256_implementations() -> [(&'static str, HmacSha256); 2] {
-    let proved: HmacSha256 = |key, message| pahyndoi::hmac_sha256(key, message).expect("accepted");
-    [("proved", proved), ("plain", plain::hmac_sha256)]
+    let proved: HmacSha256 =
+        |key, message, wanted| pahyndoi::hmac_sha256(key, message, wanted).expect("accepted");
+    let of_the_model: HmacSha256 = |key, message, wanted| {
+        let (refusal, tag) = model::hmac_sha256(model::plain_hmac, key, message, wanted);
+        assert_eq!(refusal, 0, "accepted");
+        tag
+    };
+    [("proved", proved), ("model", of_the_model)]
 }
 
 fn run_sha256_file(text: &str, count: usize) {
@@ -93,31 +99,41 @@ fn cavp_monte_carlo() {
     }
 }
 
-/// Compares the first `tag_length` bytes of each tag.
-fn run_hmac_file(text: &str, count: usize, tag_length: usize) {
+/// Asks for so many bytes of each tag of the file, and expects those that stand
+/// there, with zeros behind them.
+fn run_hmac_file(text: &str, count: usize, tag_length: usize, wanted: usize) {
     let records = records(text, "MD");
     assert_eq!(records.len(), count, "records in the file");
     for record in records {
-        let key = bytes(&record, "Key");
+        let (key, given) = (bytes(&record, "Key"), bytes(&record, "MD"));
+        assert_eq!(given.len(), tag_length, "bytes of the tag in the file");
+        let mut expected = [0; 32];
+        expected[..wanted].copy_from_slice(&given[..wanted]);
         for (name, hmac_sha256) in hmac_sha256_implementations() {
-            let tag = hmac_sha256(&key, &message(&record));
-            assert_eq!(
-                tag[..tag_length],
-                bytes(&record, "MD"),
-                "{name}, Msg = {}",
-                record["Msg"]
-            );
+            let tag = hmac_sha256(&key, &message(&record), wanted);
+            let case = record["Msg"];
+            assert_eq!(tag, expected, "{name}, Msg = {case}, {wanted} wanted");
         }
     }
 }
 
+const WHOLE_TAGS: &str = include_str!("vectors/rfc-4231-sha256.txt");
+
 #[test]
 fn rfc_4231_whole_tags() {
-    run_hmac_file(include_str!("vectors/rfc-4231-sha256.txt"), 6, 32);
+    run_hmac_file(WHOLE_TAGS, 6, 32, 32);
 }
 
-/// RFC 4231 gives only 128 bits of the tag of case 5.
+#[test]
+fn rfc_4231_fronts_of_whole_tags() {
+    for wanted in 16..32 {
+        run_hmac_file(WHOLE_TAGS, 6, 32, wanted);
+    }
+}
+
+/// The RFC truncates the tag of case 5 to 128 bits.
 #[test]
 fn rfc_4231_case_5_truncated() {
-    run_hmac_file(include_str!("vectors/rfc-4231-sha256-case-5.txt"), 1, 16);
+    let text = include_str!("vectors/rfc-4231-sha256-case-5.txt");
+    run_hmac_file(text, 1, 16, 16);
 }
