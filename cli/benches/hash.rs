@@ -13,7 +13,7 @@ mod timing;
 use std::hint::black_box;
 use std::time::Duration;
 
-use pahyndoi::{hmac_sha256_raw, plain, sha256_raw};
+use pahyndoi::{LONGEST_TAG, SHORTEST_TAG, hmac_sha256_raw, plain, sha256_raw};
 use timing::{Contender, minimum_times};
 
 const SHA256_LENGTHS: [(&str, usize); 5] = [
@@ -36,9 +36,15 @@ fn proved_sha256(message: &[u8]) -> [u8; 32] {
     digest
 }
 
-fn proved_hmac_sha256(key: &[u8], message: &[u8]) -> [u8; 32] {
+fn proved_hmac_sha256(key: &[u8], message: &[u8], wanted: usize) -> [u8; 32] {
     let mut tag = [0; 32];
-    assert_eq!(hmac_sha256_raw(key, message, &mut tag), 0);
+    assert_eq!(hmac_sha256_raw(key, message, wanted, &mut tag), 0);
+    tag
+}
+
+/// What a rival does with its tag where less of it is wanted.
+fn cut(mut tag: [u8; 32]) -> [u8; 32] {
+    tag[SHORTEST_TAG..].fill(0);
     tag
 }
 
@@ -96,7 +102,7 @@ fn main() {
             "HMAC-SHA-256, 32 B key",
             label,
             &[
-                &|| proved_hmac_sha256(&KEY, black_box(&message)),
+                &|| proved_hmac_sha256(&KEY, black_box(&message), LONGEST_TAG),
                 &|| rival::hmac_sha256(&KEY, black_box(&message)),
                 &|| libcrypto::hmac_sha256(&KEY, black_box(&message)),
                 &|| limit::hmac_sha256(&KEY, black_box(&message)),
@@ -104,4 +110,17 @@ fn main() {
             ],
         );
     }
+    let (label, length) = HMAC_LENGTHS[0];
+    let message = message(length);
+    print_case(
+        "HMAC-SHA-256, 16 B tag",
+        label,
+        &[
+            &|| proved_hmac_sha256(&KEY, black_box(&message), SHORTEST_TAG),
+            &|| cut(rival::hmac_sha256(&KEY, black_box(&message))),
+            &|| cut(libcrypto::hmac_sha256(&KEY, black_box(&message))),
+            &|| cut(limit::hmac_sha256(&KEY, black_box(&message))),
+            &|| cut(plain::hmac_sha256(&KEY, black_box(&message))),
+        ],
+    );
 }
