@@ -125,17 +125,30 @@ static void look_up(const pahyndoi_state *state, uint8_t phase, uint32_t offset)
            (int)PAHYNDOI_LENGTH(data), (const char *)logs + PAHYNDOI_PLACE(data));
 }
 
-/* The digest of "abc" (an example of FIPS 180-4), and the tag of RFC 4231's second case. */
+/* A tag of so many bytes, or by which number it is refused. */
+static void print_tag(const char *name, const char *key, const char *message, size_t wanted)
+{
+    uint8_t tag[PAHYNDOI_LONGEST_TAG];
+    uint32_t answer = pahyndoi_hmac_sha256((const uint8_t *)key, strlen(key),
+                                           (const uint8_t *)message, strlen(message), wanted, tag);
+    if (answer == PAHYNDOI_DONE)
+        print_bytes(name, tag, wanted);
+    else
+        printf("%s: refusal %u\n", name, (unsigned)answer);
+}
+
+/* The digest of "abc" (an example of FIPS 180-4), the tag of RFC 4231's second case, and that of
+   its fifth, which the RFC truncates to 128 bits; a byte less is refused. */
 static void hash_known(void)
 {
     uint8_t digest[32];
-    uint8_t tag[32];
-    const char *message = "what do ya want for nothing?";
+    char key[21] = "";
+    memset(key, 0x0c, sizeof key - 1);
     if (pahyndoi_sha256((const uint8_t *)"abc", 3, digest) == PAHYNDOI_DONE)
         print_bytes("sha256", digest, sizeof digest);
-    if (pahyndoi_hmac_sha256((const uint8_t *)"Jefe", 4, (const uint8_t *)message, strlen(message),
-                             tag) == PAHYNDOI_DONE)
-        print_bytes("hmac", tag, sizeof tag);
+    print_tag("hmac", "Jefe", "what do ya want for nothing?", PAHYNDOI_LONGEST_TAG);
+    print_tag("hmac, 16 bytes", key, "Test With Truncation", PAHYNDOI_SHORTEST_TAG);
+    print_tag("hmac, 15 bytes", key, "Test With Truncation", PAHYNDOI_SHORTEST_TAG - 1);
 }
 
 int main(void)
