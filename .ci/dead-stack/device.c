@@ -15,7 +15,7 @@ size_t store_size, logs_size, seal_size, lengths_count;
 pahyndoi_state state;
 
 uint8_t phase;
-size_t data_size, key_size, message_size;
+size_t data_size, key_size, message_size, wanted;
 uint32_t offset;
 size_t counts_count;
 uint32_t count, planned_chunks;
@@ -127,7 +127,8 @@ void sha256_job(void)
 
 void hmac_job(void)
 {
-    answer = (uint64_t)pahyndoi_hmac_sha256(zeros, key_size, zeros, message_size, result) << 32;
+    answer = (uint64_t)pahyndoi_hmac_sha256(zeros, key_size, zeros, message_size, wanted, result)
+             << 32;
 }
 
 void least_ratchet_job(void)

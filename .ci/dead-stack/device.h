@@ -29,9 +29,10 @@ extern uint8_t seal[KEYS_MOST * PAHYNDOI_ENTRY_SIZE];
 extern size_t store_size, logs_size, seal_size, lengths_count;
 extern pahyndoi_state state;
 
-/* What append is handed besides, and what sha256 and hmac are: the bytes are zeros. */
+/* What append is handed besides, and what sha256 and hmac are: the bytes are zeros. wanted is how
+   many bytes of its tag hmac is asked for. */
 extern uint8_t phase;
-extern size_t data_size, key_size, message_size;
+extern size_t data_size, key_size, message_size, wanted;
 
 /* The byte of the phase's log that is looked up. */
 extern uint32_t offset;

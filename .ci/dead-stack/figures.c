@@ -177,6 +177,15 @@ static void measure_audit(void)
     measure_refused(PAHYNDOI_BAD_AUDITOR_STORE);
 }
 
+/* Tags of the fewest and of the most bytes under the key. */
+static void measure_tags(void)
+{
+    wanted = PAHYNDOI_SHORTEST_TAG;
+    measure(&tagging, 0);
+    wanted = PAHYNDOI_LONGEST_TAG;
+    measure(&tagging, 0);
+}
+
 static void measure_hashes(void)
 {
     static const size_t sizes[] = {0, 55, 56, 63, 64, 65, 119, 120, 128, PAHYNDOI_LENGTH_LIMIT};
@@ -186,11 +195,17 @@ static void measure_hashes(void)
         measure(&hashing, 0);
         for (size_t j = 0; j < count; j++) {
             key_size = sizes[j];
-            measure(&tagging, 0);
+            measure_tags();
         }
     }
+    wanted = PAHYNDOI_SHORTEST_TAG - 1;
+    measure(&tagging, PAHYNDOI_BAD_TAG_LENGTH);
+    wanted = PAHYNDOI_LONGEST_TAG + 1;
+    measure(&tagging, PAHYNDOI_BAD_TAG_LENGTH);
     message_size = PAHYNDOI_LENGTH_LIMIT + 1;
     measure(&hashing, PAHYNDOI_TOO_LONG);
+    measure(&tagging, PAHYNDOI_TOO_LONG);
+    wanted = PAHYNDOI_LONGEST_TAG;
     measure(&tagging, PAHYNDOI_TOO_LONG);
 }
 
