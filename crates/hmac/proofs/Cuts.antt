@@ -2,7 +2,9 @@
 -- is hashed.
 use mathlib.Core.Path.{_≡_, refl, sym, ap, _∙_}
 use mathlib.Core.List.{List, [], _∷_, _++_, append-assoc, append-nil}
+use mathlib.Core.Logic.{by-cases}
 use Prim.Native.Nat.{ℕ, suc, _+_, _-_, _<_, _≤_}
+use native.Mathlib.Decide.{decLt}
 use native.Mathlib.Numerals.{add-one}
 use native.Mathlib.Omega.{arith}
 use lib.ListN.{length, getD, set, take, drop, replicate}
@@ -65,3 +67,8 @@ module _ (key text : List ℕ) where
     pub tagged-behind : drop t (tagged key text t) ≡ replicate (32 - t) 0
     unfolding tagged cut
     tagged-behind = drop-at (take t (hmac key text)) (replicate (32 - t) 0) t front-length
+
+  -- so of any number wanted, be it that many bytes or all
+  pub front-of : (n t : ℕ) → (t < 32 → n ≤ t) → take n (tagged key text t) ≡ take n (hmac key text)
+  front-of n t enough =
+      by-cases (decLt t 32) (λ few. tagged-front t (omega arith) n (enough few)) (λ many. ap (take n) (whole-tag t (omega arith)))
