@@ -90,7 +90,7 @@ module _ (f : Fed) (begun : Begun f) where
   close-fits a good e =
       let test = passed (accountCloseRules f a) refl e in
       let free = ltb-false (length (f .seal) - sealReached a) (sealReached (afterClose f a) - sealReached a) (test 10) in
-      omega (arith, close-sealed f a (good .offset))
+      omega (arith, close-sealed f begun a (good .offset))
 
   pub done-good : (a : Account) (call : Call) → Good f a → accountRefusal f a call ≡ 0 → Good f (accountDone f a call)
   unfolding accountDone accountAppend

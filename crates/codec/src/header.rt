@@ -1,13 +1,22 @@
 // A key store's header, read out of any bytes.
 ghost use mathlib.Core.Path.{_≡_};
-ghost use Rattle.codec.specs.Header.{readHeader};
 ghost use Rattle.scheme.specs.Rules as Rules;
+ghost use Rattle.scheme.specs.Store.{unheaded};
+ghost use Rattle.codec.specs.Header.{headerOf, Headed, badFields, readHeader};
 use crate::layout::DATA_LIMIT;
 use crate::layout::HEADER_LENGTH;
 use crate::layout::LOG_CAPACITY;
 use crate::layout::MAX_CHUNKS;
+use crate::layout::MAX_DATA_LIMIT;
+use crate::layout::MAX_LOG_CAPACITY;
 use crate::layout::MAX_PHASES;
 use crate::layout::MAX_RATCHET;
+use crate::layout::MAX_TAG_LENGTH;
+use crate::layout::MIN_DATA_LIMIT;
+use crate::layout::MIN_LOG_CAPACITY;
+use crate::layout::MIN_TAG_LENGTH;
+use crate::layout::OWN_SET_HEADER_LENGTH;
+use crate::layout::OWN_SET_KIND;
 use crate::layout::STORE_KIND;
 use crate::layout::TAG_LENGTH;
 use crate::places::chunk_place;
@@ -21,32 +30,57 @@ pub enum Reading {
     Bad,
 }
 
-// The header, where the bytes are a store of the kind, the counts and the length that one may have.
+// The header, where the bytes are a store of a kind, of counts and parameters and of a length that one may have.
 pub fn read_header(store: &[u8]) -> Reading
     ensures { λ r. ⌜ r ≡ readHeader (now (store .entry)) ⌝ }
 {
+    if lacks_header(store) {
+        return Reading::Bad;
+    }
+    let header = fields(store);
+    if out_of_range(header) {
+        return Reading::Bad;
+    }
+    if store.len() != chunk_place(header.header_length, header.chunks) {
+        return Reading::Bad;
+    }
+    Reading::Store(header)
+}
+
+// No whole header of either kind stands there.
+fn lacks_header(store: &[u8]) -> bool
+    ensures { λ r. ⌜ r ≡ unheaded (now (store .entry)) ⌝ }
+{
     if store.len() < HEADER_LENGTH as usize {
-        return Reading::Bad;
+        return true;
     }
-    if store[0] != STORE_KIND {
-        return Reading::Bad;
+    let kind = store[0];
+    if kind == OWN_SET_KIND {
+        return store.len() < OWN_SET_HEADER_LENGTH as usize;
     }
+    kind != STORE_KIND
+}
+
+// The fields of a header that is whole. The set is read here, and nowhere else.
+fn fields(store: &[u8]) -> Header
+    requires { ⌜ Headed (now store) ⌝ }
+    ensures { λ r. ⌜ r ≡ headerOf (now (store .entry)) ⌝ }
+{
     let phases = store[9];
-    if outside(1, MAX_PHASES, wide(phases)) {
-        return Reading::Bad;
-    }
     let chunks = read_u32(store, 10);
-    if outside(1, MAX_CHUNKS, chunks) {
-        return Reading::Bad;
-    }
     let ratchet = read_u32(store, 14);
-    if outside(1, MAX_RATCHET, ratchet) {
-        return Reading::Bad;
+    if store[0] == OWN_SET_KIND {
+        return Header {
+            phases,
+            chunks,
+            ratchet,
+            header_length: OWN_SET_HEADER_LENGTH,
+            tag_length: wide(store[18]),
+            data_limit: read_u32(store, 19),
+            log_capacity: read_u32(store, 23),
+        };
     }
-    if store.len() != chunk_place(HEADER_LENGTH, chunks) {
-        return Reading::Bad;
-    }
-    Reading::Store(Header {
+    Header {
         phases,
         chunks,
         ratchet,
@@ -54,7 +88,32 @@ pub fn read_header(store: &[u8]) -> Reading
         tag_length: TAG_LENGTH,
         data_limit: DATA_LIMIT,
         log_capacity: LOG_CAPACITY,
-    })
+    }
+}
+
+// A count or a parameter that no store may have.
+fn out_of_range(header: Header) -> bool
+    ensures { λ r. ⌜ r ≡ badFields header ⌝ }
+{
+    if outside(1, MAX_PHASES, wide(header.phases)) {
+        return true;
+    }
+    if outside(1, MAX_CHUNKS, header.chunks) {
+        return true;
+    }
+    if outside(1, MAX_RATCHET, header.ratchet) {
+        return true;
+    }
+    if outside(MIN_TAG_LENGTH, MAX_TAG_LENGTH, header.tag_length) {
+        return true;
+    }
+    if outside(MIN_DATA_LIMIT, MAX_DATA_LIMIT, header.data_limit) {
+        return true;
+    }
+    if outside(MIN_LOG_CAPACITY, MAX_LOG_CAPACITY, header.log_capacity) {
+        return true;
+    }
+    header.log_capacity < header.data_limit
 }
 
 // A number outside its range.

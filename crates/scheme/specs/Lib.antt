@@ -10,3 +10,4 @@ pub mod State
 pub mod Sealer
 pub mod Audit
 pub mod Acceptable
+pub mod Sizes

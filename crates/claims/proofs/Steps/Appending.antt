@@ -63,7 +63,7 @@ module _ (f : Fed) (begun : Begun f) (a : Account) (good : Good f a) (phase : â„
   append-device e =
       let asks = append-asks f begun a good phase bytes e in
       let it = entryDue f a phase bytes in
-      let long = entry-long f a phase bytes in
+      let long = entry-long f begun a phase bytes in
       let b = withData (withItem a it) phase bytes in
       let room = logs-room f begun (a .logs) (good .logs) in
       same-device

@@ -42,7 +42,7 @@ module _ (f : Fed) (begun : Begun f) (a : Account) (good : Good f a) where
           rw (left-bad f begun a good, left-bad-logs f begun a good, unfit, begun .starts .store, begun .starts .logs)
       go false unfit =
           let adds : sealReached (afterClose f (withLost a false)) - sealReached a ≡ left f a * fillerLength (f .store) =
-          omega (arith, close-sealed f (withLost a false) (good .offset))
+          omega (arith, close-sealed f begun (withLost a false) (good .offset))
           in
           rw (
             left-bad f begun a good,
@@ -68,13 +68,13 @@ module _ (f : Fed) (begun : Begun f) (a : Account) (good : Good f a) where
       let fits = close-fits f begun a good e in
       rw (after-close f a (good .offset), fillers-left)
       (same-device
-      (fill-state f (storeLeft f a) same k a (good .offset) refl
+      (fill-state f begun (storeLeft f a) same k a (good .offset) refl
       ∙ sym (state-held f b (fill-lost f k a ∙ close-kept e)))
       (store-left f a good (begun .store)
       ∙ ap (zeroed (f .store)) (sym (fill-front f k a (good .offset) refl))
       ∙ sym (store-left f b (fill-good f begun k a good refl fits) (begun .store)))
       (ap (λ (logs : List (List ℕ)). placed f 1 logs (f .logs)) (sym (fill-logs f k a)))
-      (fill-seal f (storeLeft f a) same k a (good .offset) refl fits))
+      (fill-seal f begun (storeLeft f a) same k a (good .offset) refl fits))
 
   close-answer : answerOf (closed (held f a) (storeLeft f a) (logsLeft f a) (sealLeft f a)) ≡ record { refusal = 0; count = accountCount f a Close }
   unfolding closed accountCount

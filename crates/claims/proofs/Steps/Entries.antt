@@ -15,7 +15,7 @@ use Rattle.scheme.specs.Store.{dataLimit, logCapacity, phases, chunkCount}
 use Rattle.scheme.specs.Items.{entryHeadLength, entryLength, dataOf}
 use Rattle.scheme.specs.Keys.{tagOf}
 use Rattle.scheme.specs.Areas.{areasIn, areaOf, Runs}
-use Rattle.scheme.proofs.Parameters.{bounds, entry-value}
+use Rattle.scheme.proofs.Parameters.{entry-value}
 use Rattle.scheme.proofs.Tags.{tag-length}
 use Rattle.scheme.proofs.Runs.{run-none, run-one}
 use Rattle.scheme.proofs.Items.{MadeEntry, made-entry, entry-fields, entry-length, entry-data}
@@ -38,13 +38,13 @@ pub record Appends (f : Fed) (a : Account) (phase : ℕ) (bytes : List ℕ) : Ty
 abbrev pub logsWith : Account → ℕ → List ℕ → List (List ℕ)
 logsWith a phase bytes = set (a .logs) (phase - 1) (logOf a phase ++ bytes)
 
-pub entry-long : (f : Fed) (a : Account) (phase : ℕ) (bytes : List ℕ) → length (entryDue f a phase bytes) ≡ entryLength (f .store)
+pub entry-long : (f : Fed) → Begun f → (a : Account) (phase : ℕ) (bytes : List ℕ) → length (entryDue f a phase bytes) ≡ entryLength (f .store)
 unfolding entryDue
-entry-long f a phase bytes =
+entry-long f begun a phase bytes =
     let key = dueKey f a in
     let message = headDue a phase bytes ++ bytes in
     entry-length _ _ (tagOf (f .store) key message) _ _ _
-    ∙ ap (λ (n : ℕ). entryHeadLength + n) (tag-length (f .store) key message)
+    ∙ ap (λ (n : ℕ). entryHeadLength + n) (tag-length (f .store) key message (begun .store .set .tagHigh))
     ∙ sym (entry-value (f .store))
 
 module _ (f : Fed) (begun : Begun f) (a : Account) (good : Good f a) (phase : ℕ) (bytes : List ℕ) (asks : Appends f a phase bytes) where
@@ -109,10 +109,10 @@ module _ (f : Fed) (begun : Begun f) (a : Account) (good : Good f a) (phase : �
   unfolding entryDue
   entry-adds =
       let logs = logsWith a phase bytes in
-      let long = entry-long f a phase bytes in
+      let long = entry-long f begun a phase bytes in
       let head = headDue a phase bytes in
       let tag = tagOf (f .store) (dueKey f a) (head ++ bytes) in
-      let high = bounds (f .store) (begun .store) in
+      let high = begun .store .set in
       let made : MadeEntry (head ++ tag) phase (length (logOf a phase)) (length bytes) =
       entry-fields _ _ tag _ _ _
       (omega (arith, good .logs .sizes (phase - 1), high .capacityHigh)) (omega (arith, asks .few, high .dataHigh)) in

@@ -27,11 +27,11 @@ use Rattle.claims.proofs.Steps.Stepping.{step-cases, step-items}
 use Rattle.claims.proofs.Steps.StoreLeft.{chunk-below}
 
 -- the length of the filler that is due
-pub filler-long : (f : Fed) (a : Account) → length (fillerDue f a) ≡ fillerLength (f .store)
+pub filler-long : (f : Fed) → Begun f → (a : Account) → length (fillerDue f a) ≡ fillerLength (f .store)
 unfolding fillerDue
-filler-long f a =
+filler-long f begun a =
     filler-length _ _ (tagOf (f .store) (dueKey f a) (fillerHead (a .c) (a .r) ++ []))
-    ∙ ap (λ (n : ℕ). fillerHeadLength + n) (tag-length (f .store) (dueKey f a) (fillerHead (a .c) (a .r) ++ []))
+    ∙ ap (λ (n : ℕ). fillerHeadLength + n) (tag-length (f .store) (dueKey f a) (fillerHead (a .c) (a .r) ++ []) (begun .store .set .tagHigh))
     ∙ sym (filler-value (f .store))
 
 module _ (f : Fed) (begun : Begun f) (a : Account) (good : Good f a) where
@@ -39,7 +39,7 @@ module _ (f : Fed) (begun : Begun f) (a : Account) (good : Good f a) where
   unfolding fillerDue areasIn
   filler-adds inner sealed =
       let room = chunk-below f a good (begun .store) inner in
-      let long = filler-long f a in
+      let long = filler-long f begun a in
       let head = fillerHead (a .c) (a .r) in
       let tag = tagOf (f .store) (dueKey f a) (head ++ []) in
       let kind = filler-kind (a .c) (a .r) tag in
@@ -99,18 +99,6 @@ module _ (f : Fed) where
   close-fill (suc n) (suc k) a below e h =
       rw (lt-ltb 0 (a .r .0) (left-some a k e .0)) (close-fill n k (filled f a) (filled-below a below) (left-next a k below e) (omega arith))
 
-  pub filled-sealed : (a : Account) → sealReached (filled f a) ≡ sealReached a + fillerLength (f .store)
-  filled-sealed a =
-      ap (λ (items : List (List ℕ)). length (joined items)) (step-items f (withItem a (fillerDue f a)))
-      ∙ ap length (joined-last (a .items) (fillerDue f a))
-      ∙ length-append (joined (a .items)) (fillerDue f a)
-      ∙ ap (λ (n : ℕ). sealReached a + n) (filler-long f a)
-
-  fill-sealed : (k : ℕ) (a : Account) → sealReached (fill f k a) ≡ sealReached a + k * fillerLength (f .store)
-  unfolding fill
-  fill-sealed zero a = omega arith
-  fill-sealed (suc k) a = omega (arith, fill-sealed k (filled f a), filled-sealed a)
-
   pub fill-count : (k : ℕ) (a : Account) → length (fill f k a .items) ≡ length (a .items) + k
   unfolding fill
   fill-count zero a = omega arith
@@ -118,21 +106,34 @@ module _ (f : Fed) where
       let more = ap length (step-items f (withItem a (fillerDue f a))) ∙ length-append (a .items) (fillerDue f a ∷ []) in
       omega (arith, fill-count k (filled f a))
 
-  pub fill-good : Begun f → (k : ℕ) (a : Account) → Good f a → left f a ≡ k → sealReached a + k * fillerLength (f .store) ≤ length (f .seal)
-      → Good f (fill f k a)
-  unfolding fill
-  fill-good begun zero a good e h = good
-  fill-good begun (suc k) a good e h =
-      fill-good begun k (filled f a)
-      (adds-good f (begun .store) a good (fillerDue f a) (a .logs) (filler-adds f begun a good (left-some a k e .0) (omega arith))) (left-next a k (good .offset) e)
-      (omega (arith, filled-sealed a))
-
   left-at-most : (a : Account) → left f a ≤ ratchet (f .store)
   left-at-most a = either (λ n. n ≤ ratchet (f .store)) (eqb (a .r .0) 0) (omega arith) (omega arith)
 
   pub after-close : (a : Account) → a .r .0 < ratchet (f .store) → afterClose f a ≡ fill f (left f a) a
   after-close a below = close-fill (ratchet (f .store)) (left f a) a below refl (left-at-most a)
 
+module _ (f : Fed) (begun : Begun f) where
+  pub filled-sealed : (a : Account) → sealReached (filled f a) ≡ sealReached a + fillerLength (f .store)
+  filled-sealed a =
+      ap (λ (items : List (List ℕ)). length (joined items)) (step-items f (withItem a (fillerDue f a)))
+      ∙ ap length (joined-last (a .items) (fillerDue f a))
+      ∙ length-append (joined (a .items)) (fillerDue f a)
+      ∙ ap (λ (n : ℕ). sealReached a + n) (filler-long f begun a)
+
+  fill-sealed : (k : ℕ) (a : Account) → sealReached (fill f k a) ≡ sealReached a + k * fillerLength (f .store)
+  unfolding fill
+  fill-sealed zero a = omega arith
+  fill-sealed (suc k) a = omega (arith, fill-sealed k (filled f a), filled-sealed a)
+
+  pub fill-good : (k : ℕ) (a : Account) → Good f a → left f a ≡ k → sealReached a + k * fillerLength (f .store) ≤ length (f .seal)
+      → Good f (fill f k a)
+  unfolding fill
+  fill-good zero a good e h = good
+  fill-good (suc k) a good e h =
+      fill-good k (filled f a)
+      (adds-good f (begun .store) a good (fillerDue f a) (a .logs) (filler-adds f begun a good (left-some f a k e .0) (omega arith))) (left-next f a k (good .offset) e)
+      (omega (arith, filled-sealed a))
+
   -- what close adds to the seal file
   pub close-sealed : (a : Account) → a .r .0 < ratchet (f .store) → sealReached (afterClose f a) ≡ sealReached a + left f a * fillerLength (f .store)
-  close-sealed a below = ap sealReached (after-close a below) ∙ fill-sealed (left f a) a
+  close-sealed a below = ap sealReached (after-close f a below) ∙ fill-sealed (left f a) a

@@ -97,7 +97,7 @@ step-front f a =
     step-cases f a (λ b. front b ≡ suc (a .c .0)) (λ full. refl) (λ apart. rw (ne-eqb (suc (a .r .0)) 0 (λ z. omega arith)))
 
 -- fillers
-module _ (f : Fed) (store : List ℕ) (same : SameFields store (f .store)) where
+module _ (f : Fed) (begun : Begun f) (store : List ℕ) (same : SameFields store (f .store)) where
   key-due : (a : Account) → 0 < a .r .0 → held f a .key ≡ dueKey f a
   key-due a inner = rw (ne-eqb (a .r .0) 0 (λ z. omega arith))
 
@@ -109,7 +109,7 @@ module _ (f : Fed) (store : List ℕ) (same : SameFields store (f .store)) where
       ∙ stepped-held f store same (withItem a (fillerDue f a)) below (held f a .key)
     where
       sealed-more : sealReached a + fillerLength store ≡ length (joined (a .items ++ (fillerDue f a ∷ [])))
-      sealed-more = rw (joined-last, length-append, filler-long, same-filler-length store (f .store) same)
+      sealed-more = rw (joined-last, length-append, filler-long f begun, same-filler-length store (f .store) same)
 
   filler-made : (a : Account) → 0 < a .r .0 → fillerItem store (held f a) ≡ fillerDue f a
   unfolding fillerItem fillerDue
@@ -132,9 +132,9 @@ module _ (f : Fed) (store : List ℕ) (same : SameFields store (f .store)) where
       let it = fillerDue f a in
       ap₂ (filledSeal store k) (filled-held a inner below)
       (ap (splice (sealLeft f a) (sealReached a)) (filler-made a inner)
-      ∙ seal-append f a it (omega (arith, filler-long f a))
+      ∙ seal-append f a it (omega (arith, filler-long f begun a))
       ∙ ap (λ (items : List (List ℕ)). splice (f .seal) 0 (joined items)) (sym (step-items f (withItem a it))))
-      ∙ fill-seal k (filled f a) (filled-below f a below) (left-next f a k below e) (omega (arith, filled-sealed f a))
+      ∙ fill-seal k (filled f a) (filled-below f a below) (left-next f a k below e) (omega (arith, filled-sealed f begun a))
 
 module _ (f : Fed) where
   -- what no filler changes stays
