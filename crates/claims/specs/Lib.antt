@@ -2,5 +2,6 @@
 pub mod Account
 pub mod Run
 pub mod Claim
+pub mod Sets
 pub mod Plan
 pub mod Rows

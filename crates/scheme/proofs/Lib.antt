@@ -9,6 +9,7 @@ pub mod Numbers
 pub mod Scans
 pub mod Parameters
 pub mod Headers
+pub mod Written
 pub mod Items
 pub mod Tags
 pub mod Places

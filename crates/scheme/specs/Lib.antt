@@ -11,3 +11,4 @@ pub mod Sealer
 pub mod Audit
 pub mod Acceptable
 pub mod Sizes
+pub mod Written
