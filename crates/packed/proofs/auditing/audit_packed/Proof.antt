@@ -43,6 +43,7 @@ returns c =
       answer =
           c .verdict-code .ensures ∙
           ap₂ packed (says .refusal ∙ ap (λ said. said .refusal) same) (says .number ∙ ap (λ said. said .number) same);
+      fits = omega (arith, c .before .audit .ensures .1, says .number ∙ ap (λ said. said .number) same);
     }
 
 pub audit-packed-spec : {M : Type 1} → statement M

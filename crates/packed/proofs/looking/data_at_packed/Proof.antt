@@ -8,6 +8,7 @@ use borrow.Author.Needs.{needs}
 use Rattle.lookup.specs.Lookup.{dataPlace}
 use Rattle.lookup.specs.declared.Place.{Place}
 use Rattle.lookup.proofs.Exactly.{place-small}
+use Rattle.scheme.specs.Sizes.{mostLogged}
 use Rattle.packed.specs.Surface.{packed}
 use Rattle.packed.proofs.Listing.{same-place}
 use Rattle.packed.proofs.looking.data_at_packed.Statement.{statement}
@@ -28,8 +29,8 @@ slice-aggregate-data-place c = sym (length-take-le _ _ (omega arith))
 data-place-requires : tie.Need-data-place-requires
 data-place-requires c κs = search needs
 
-small : (c : tie.After-data-place) → c .data-place .result .begin + c .data-place .result .size ≤ 524288
-small c = subst (λ (x : Place). x .begin + x .size ≤ 524288) (sym (c .data-place .ensures)) (place-small _ _ _ _ _ _ _)
+small : (c : tie.After-data-place) → c .data-place .result .begin + c .data-place .result .size ≤ mostLogged
+small c = subst (λ (x : Place). x .begin + x .size ≤ mostLogged) (sym (c .data-place .ensures)) (place-small _ _ _ _ _ _ _)
 
 code-requires : tie.Need-code-requires
 code-requires c κs = (omega (arith, small c), omega (arith, small c))
@@ -49,7 +50,7 @@ returns c =
     let sized = ap (λ (x : Place). x .size) same in
     record {
       answer = c .code .ensures ∙ ap₂ packed (ap (λ (x : Place). x .begin) same) sized;
-      fits = omega (arith, sized, small (c .before));
+      fits = subst (λ (x : Place). x .begin + x .size ≤ mostLogged) same (small (c .before));
     }
 
 pub data-at-packed-spec : {M : Type 1} → statement M

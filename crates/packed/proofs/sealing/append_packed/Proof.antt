@@ -25,6 +25,7 @@ returns c =
     let left = c .before .before .before .before .before .before .before .append .ensures in
     record {
       code = packed-answer _ _ (left .gives) (c .pack .result) (c .pack .ensures .0);
+      fits = appends-count _ _ _ _ _ _;
       state = c .pack .ensures .1 ∙ left .gives .state;
       store-left = left .store;
       logs-left = left .logs;

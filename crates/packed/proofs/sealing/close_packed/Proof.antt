@@ -19,6 +19,7 @@ returns c =
     let left = c .before .before .before .close .ensures in
     record {
       code = packed-answer _ _ (left .gives) (c .pack .result) (c .pack .ensures .0);
+      fits = closes-count _ _ _ _;
       state = c .pack .ensures .1 ∙ left .gives .state;
       seal-left = left .seal;
     }

@@ -16,6 +16,7 @@ returns c =
     let left = c .before .open .ensures in
     record {
       code = packed-answer _ _ left (c .pack .result) (c .pack .ensures .0);
+      fits = opens-count _ _ _ _ _;
       state = c .pack .ensures .1 ∙ left .state;
     }
 
