@@ -17,12 +17,12 @@ mod tests;
 
 pub use account::{Account, Call, is_history};
 pub use audit::{Presented, audit, audit_packed, log_lengths};
-pub use item::{ENTRY_LENGTH, FILLER_LENGTH, Head, Item};
+pub use item::{Head, Item};
 pub use key::{Position, key_at, next_key, position, ratchet_message};
 pub use lookup::Audited;
 pub use planning::{chunks_needed, least_ratchet};
 pub use sealing::{State, append, close, open};
-pub use store::{Header, burned_at_front, chunk, is_burned};
+pub use store::{Header, Set, burned_at_front, chunk, is_burned};
 pub use tag::hmac_sha256;
 
 use crate::plain;
@@ -30,23 +30,29 @@ use crate::plain;
 /// The length in bytes of a chunk and a key.
 pub const KEY_LENGTH: usize = 32;
 
-/// The length in bytes of a whole tag, as an item has it.
-pub const TAG_LENGTH: usize = 32;
+/// The length in bytes of a whole HMAC.
+pub const HMAC_LENGTH: usize = 32;
 
 /// The most phases that a store can name.
 pub const PHASE_LIMIT: usize = 8;
 
-/// The bytes of one phase's log in the log memory.
-pub const LOG_CAPACITY: usize = 8192;
+/// The bytes of one phase's log in the log memory, with a store of kind 1.
+pub const LOG_CAPACITY: usize = Set::COMMON.log_capacity as usize;
 
-/// The longest data of one entry.
-pub const DATA_LIMIT: usize = 512;
+/// The longest data of one entry, with a store of kind 1.
+pub const DATA_LIMIT: usize = Set::COMMON.data_limit as usize;
+
+/// The bytes of an entry item, with a store of kind 1.
+pub const ENTRY_LENGTH: usize = Set::COMMON.entry_length();
+
+/// The bytes of a filler item, with a store of kind 1.
+pub const FILLER_LENGTH: usize = Set::COMMON.filler_length();
 
 /// HMAC-SHA-256 of a message given in parts, under the key given first.
-pub type Hmac = fn(&[u8], &[&[u8]]) -> [u8; TAG_LENGTH];
+pub type Hmac = fn(&[u8], &[&[u8]]) -> [u8; HMAC_LENGTH];
 
 /// The HMAC of [`plain`].
-pub fn plain_hmac(key: &[u8], message_parts: &[&[u8]]) -> [u8; TAG_LENGTH] {
+pub fn plain_hmac(key: &[u8], message_parts: &[&[u8]]) -> [u8; HMAC_LENGTH] {
     plain::hmac_sha256(key, &message_parts.concat())
 }
 

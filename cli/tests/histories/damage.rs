@@ -159,23 +159,23 @@ fn lengthen_seal_file(random: &mut Random, presentation: &mut Presentation, item
 /// history's.
 fn damage_items(random: &mut Random, items: &mut Vec<Item>, others: &[Item]) {
     if items.is_empty() {
-        items.extend(others);
+        items.extend_from_slice(others);
         return;
     }
     let (one, another) = (random.index(items.len()), random.index(items.len()));
     match random.up_to(6) {
         0 => drop(items.remove(one)),
-        1 => items.insert(one, items[another]),
+        1 => items.insert(one, items[another].clone()),
         2 => items.swap(one, another),
         3 => {
             let moved = items.remove(one);
             items.insert(another, moved);
         }
-        4 => items[one] = *others.get(one).unwrap_or(&items[another]),
+        4 => items[one] = others.get(one).unwrap_or(&items[another]).clone(),
         5 => {
             items.truncate(one);
-            items.extend(others.iter().skip(one));
+            items.extend(others.iter().skip(one).cloned());
         }
-        _ => items[one].tag = items[another].tag,
+        _ => items[one].tag = items[another].tag.clone(),
     }
 }

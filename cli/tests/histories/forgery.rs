@@ -1,7 +1,7 @@
 //! Material made by somebody who knows every key: whatever the items say, the
 //! tags are right.
 
-use pahyndoi::model::{Head, LOG_CAPACITY, Position, chunk, next_key, plain_hmac, position};
+use pahyndoi::model::{Head, Header, Position, chunk, next_key, plain_hmac, position};
 
 use crate::areas::{Area, random_areas, spoil};
 use crate::device::Shape;
@@ -110,7 +110,7 @@ struct Forger {
     presentation: Presentation,
     /// The key of each number that the store has one for.
     keys: Vec<[u8; 32]>,
-    ratchet: u32,
+    header: Header,
 }
 
 impl Forger {
@@ -127,7 +127,7 @@ impl Forger {
         device_store[18..18 + 32 * burned.min(shape.chunk_count)].fill(0);
         Forger {
             keys: all_keys(&material.store, &shape),
-            ratchet: ratchet as u32,
+            header: Header::parse(&material.store).expect("a store"),
             presentation: Presentation {
                 device_store,
                 auditor_store: material.store,
@@ -140,14 +140,15 @@ impl Forger {
 
     /// Each item under the key of its number, or of the place it claims.
     fn seal_all(&mut self, heads: &[Head], claimed: bool) {
+        let ratchet = self.header.ratchet;
         for (number, head) in heads.iter().enumerate() {
             let place = head.position();
-            let index = match claimed && place.offset < self.ratchet && place.chunk < 1024 {
-                true => place.item_number(self.ratchet) as usize,
+            let index = match claimed && place.offset < ratchet && place.chunk < 1024 {
+                true => place.item_number(ratchet) as usize,
                 false => number,
             };
             let key = self.keys.get(index).unwrap_or(&[0; 32]);
-            let item = head.seal(plain_hmac, key, self.data(head));
+            let item = head.seal(self.header.set(), plain_hmac, key, self.data(head));
             self.presentation.seal_file.extend(item.to_bytes());
         }
     }
@@ -163,7 +164,7 @@ impl Forger {
         else {
             return &[];
         };
-        let start = LOG_CAPACITY * usize::from(phase).saturating_sub(1) + offset as usize;
+        let start = self.header.log_start(phase.max(1)) + offset as usize;
         let area = start..start + length as usize;
         self.presentation.log_memory.get(area).unwrap_or_default()
     }

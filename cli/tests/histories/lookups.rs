@@ -1,7 +1,7 @@
 //! Bytes of presented material looked up by library and model, and the way
 //! from an entry to its bytes and back.
 
-use pahyndoi::model::{Audited, LOG_CAPACITY};
+use pahyndoi::model::{Audited, Header};
 use pahyndoi::{Material, data_at, data_at_raw, item_at, item_at_raw};
 
 use crate::answer::split;
@@ -47,7 +47,8 @@ fn raw(call: Call, material: &Material, (phase, offset): Place) -> u64 {
 /// and another byte of their areas and back. Answers how many bytes were
 /// looked up.
 pub fn go_there_and_back(random: &mut Random, material: &Material, most: usize) -> usize {
-    let mut entries = entries(material.seal_file);
+    let header = Header::parse(material.device_store).expect("a store");
+    let mut entries = entries(header.set(), material.seal_file);
     random.shuffle(&mut entries);
     entries.truncate(most);
     let mut looked_up = 0;
@@ -59,7 +60,7 @@ pub fn go_there_and_back(random: &mut Random, material: &Material, most: usize) 
         offsets.dedup();
         looked_up += offsets.len();
         for offset in offsets {
-            assert_leads_back(material, number, area, offset);
+            assert_leads_back(material, &header, (number, area), offset);
         }
     }
     looked_up
@@ -67,14 +68,19 @@ pub fn go_there_and_back(random: &mut Random, material: &Material, most: usize) 
 
 /// Fails where a byte of an area does not lead to the entry, or not to the
 /// very part of the lent logs that the area is.
-fn assert_leads_back(material: &Material, number: u32, area: Area, offset: u32) {
+fn assert_leads_back(
+    material: &Material,
+    header: &Header,
+    (number, area): (u32, Area),
+    offset: u32,
+) {
     let (phase, first, length) = area;
     assert_eq!(
         item_at(material, phase, offset),
         Ok(number.into()),
         "item of byte {offset} of phase {phase}"
     );
-    let start = LOG_CAPACITY * (usize::from(phase) - 1) + first as usize;
+    let start = header.log_start(phase) + first as usize;
     let expected = &material.logs[start..start + length as usize];
     let data = data_at(material, phase, offset);
     assert_eq!(

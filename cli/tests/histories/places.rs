@@ -1,6 +1,6 @@
 //! Which bytes of presented material are looked up.
 
-use pahyndoi::model::{Head, Item, log_lengths};
+use pahyndoi::model::{Head, Header, Item, Set, log_lengths};
 
 use crate::areas::Area;
 use crate::presentation::Presentation;
@@ -10,11 +10,11 @@ use crate::random::Random;
 pub type Place = (u8, u32);
 
 /// The entries of a seal file by item number, as far as it can be read.
-pub fn entries(seal_file: &[u8]) -> Vec<(u32, Area)> {
+pub fn entries(set: Set, seal_file: &[u8]) -> Vec<(u32, Area)> {
     let mut entries = Vec::new();
     let mut rest = seal_file;
     let mut number = 0;
-    while let Some(item) = Item::parse(rest) {
+    while let Some(item) = Item::parse(set, rest) {
         if let Head::Entry {
             phase,
             offset,
@@ -38,7 +38,9 @@ pub fn random_places(random: &mut Random, presentation: &Presentation) -> Vec<Pl
         anywhere(random, phases),
         at_edge_of_log(random, phases, &lengths),
     ];
-    let entries = entries(&presentation.seal_file);
+    let header = Header::parse(&presentation.device_store);
+    let set = header.map_or(Set::COMMON, |header| header.set());
+    let entries = entries(set, &presentation.seal_file);
     if !entries.is_empty() {
         let (_, area) = random.pick(&entries);
         places.push(near_area(random, area));

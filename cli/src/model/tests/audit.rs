@@ -34,7 +34,7 @@ impl Case {
             case.push(position(number as u32, header.ratchet), *item);
         }
         let burned = items.len().div_ceil(header.ratchet as usize);
-        case.device_store[18..18 + 32 * burned].fill(0);
+        case.device_store[header.length()..][..32 * burned].fill(0);
         case
     }
 
@@ -52,16 +52,16 @@ impl Case {
                     length,
                     position,
                 },
-                self.data(phase, offset, length),
+                self.data(&header, phase, offset, length),
             ),
         };
-        let item = head.seal(plain_hmac, &key, data);
+        let item = head.seal(header.set(), plain_hmac, &key, data);
         self.seal_file.extend(item.to_bytes());
     }
 
     /// The data in an area; none where it leaves the memory.
-    fn data(&self, phase: u8, offset: u32, length: u32) -> &[u8] {
-        let start = LOG_CAPACITY as u64 * u64::from(phase.max(1) - 1) + u64::from(offset);
+    fn data(&self, header: &Header, phase: u8, offset: u32, length: u32) -> &[u8] {
+        let start = header.log_start(phase.max(1)) as u64 + u64::from(offset);
         let end = start + u64::from(length);
         let area = start as usize..end as usize;
         self.log_memory.get(area).unwrap_or_default()
@@ -78,12 +78,12 @@ impl Case {
     }
 
     /// The refusal and the number.
-    fn audit(&self) -> (u32, u32) {
+    pub(super) fn audit(&self) -> (u32, u32) {
         let answer = audit(plain_hmac, &self.presented());
         (answer.refusal, answer.number)
     }
 
-    fn changed(&self, change: impl Fn(&mut Case)) -> (u32, u32) {
+    pub(super) fn changed(&self, change: impl Fn(&mut Case)) -> (u32, u32) {
         let mut case = self.clone();
         change(&mut case);
         case.audit()

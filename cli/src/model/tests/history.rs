@@ -15,6 +15,10 @@ impl Random {
         let value = self.0.wrapping_mul(0x2545_f491_4f6c_dd1d) >> 16;
         (value % (most as u64 + 1)) as usize
     }
+
+    fn pick<T: Copy>(&mut self, from: &[T]) -> T {
+        from[self.up_to(from.len() - 1)]
+    }
 }
 
 /// Makes the call and gives its refusal and count.
@@ -30,12 +34,13 @@ fn perform(device: &mut Device, call: &Call) -> (u32, u32) {
 }
 
 /// One of the calls that a history may hold, refused ones among them.
-fn random_call(random: &mut Random, account: &Account, seal_memory: usize) -> Call {
+fn random_call(random: &mut Random, set: Set, account: &Account, seal_memory: usize) -> Call {
     let mut log_lengths = account.log_lengths();
+    let most = random.pick(&[3, set.data_limit as usize + 18]);
     match random.up_to(11) {
         0..=6 => Call::Append {
             phase: random.up_to(log_lengths.len() + 1) as u8,
-            data: vec![random.up_to(255) as u8; random.up_to(530)],
+            data: vec![random.up_to(255) as u8; random.up_to(most)],
         },
         7 | 8 => Call::Close,
         9 => {
@@ -54,6 +59,17 @@ fn random_call(random: &mut Random, account: &Account, seal_memory: usize) -> Ca
             seal_length: account.seal_length(),
         },
     }
+}
+
+/// None, or a set of short logs and tags of any length.
+fn random_set(random: &mut Random) -> Option<Set> {
+    let data_limit = random.pick(&[1, 2, 100, 512, 513, 4096]);
+    let set = Set {
+        tag_length: random.up_to(16) as u8 + 16,
+        data_limit,
+        log_capacity: data_limit.max(512) + random.pick(&[0, 1, 100, 10_000]),
+    };
+    random.pick(&[None, Some(set), Some(set)])
 }
 
 /// The audit accepts what a history left, or misses the items of a chunk half
@@ -78,17 +94,19 @@ fn assert_audit_of_untouched(start: &Material, account: &Account, ratchet: u32) 
 #[test]
 fn calls_and_account_agree() {
     let mut random = Random(0x5ea1_ed10_65a5_1234);
-    for round in 0..150 {
+    for round in 0..300 {
         let ratchet = [1, 2, 3, 7][round % 4];
         let phases = random.up_to(7) as u8 + 1;
         let seal_memory = random.up_to(1500);
         let chunk_count = random.up_to(8) as u32 + 1;
-        let mut device = Device::new(phases, chunk_count, ratchet, seal_memory);
+        let own_set = random_set(&mut random);
+        let mut device = Device::of(own_set, phases, chunk_count, ratchet, seal_memory);
         let start = device.material.clone();
         let mut account = Account::start(&start).expect("an unused store");
         let mut calls = Vec::new();
         for _ in 0..random.up_to(40) {
-            let call = random_call(&mut random, &account, seal_memory);
+            let set = own_set.unwrap_or(Set::COMMON);
+            let call = random_call(&mut random, set, &account, seal_memory);
             calls.push(call);
             if !is_history(plain_hmac, &start, &calls) {
                 calls.pop();

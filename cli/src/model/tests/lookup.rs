@@ -6,9 +6,9 @@ use super::*;
 
 /// The refusal and the number of `item_at`, and the begin and the length of
 /// the part that `data_at` gives.
-type Found = (u32, u32, usize, usize);
+pub(super) type Found = (u32, u32, usize, usize);
 
-fn look_up(case: &Case, phase: u8, offset: u32) -> Found {
+pub(super) fn look_up(case: &Case, phase: u8, offset: u32) -> Found {
     let audited = Audited::new(plain_hmac, &case.presented());
     let Answer { refusal, number } = audited.item_at(phase, offset);
     let data = audited.data_at(phase, offset);

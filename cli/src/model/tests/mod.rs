@@ -1,5 +1,5 @@
-//! The small cases of `docs/FORMAT.md`, 11, each refusal at its two sides, and
-//! whole histories.
+//! The small cases of `docs/FORMAT.md`, 11, each refusal at its two sides, sets
+//! of parameters and whole histories.
 
 mod audit;
 mod history;
@@ -7,15 +7,28 @@ mod lookup;
 mod planning;
 mod rows;
 mod sealing;
+mod set;
 mod tag;
 
 use super::*;
 
-/// An unused store: an id of 1 to 8 and chunks without a zero byte.
+/// An unused store of kind 1.
 fn store(phases: u8, chunk_count: u32, ratchet: u32) -> Vec<u8> {
-    let mut store = vec![1, 1, 2, 3, 4, 5, 6, 7, 8, phases];
+    store_of(None, phases, chunk_count, ratchet)
+}
+
+/// An unused store, of kind 6 where it has a set of its own: an id of 1 to 8 and
+/// chunks without a zero byte.
+fn store_of(own_set: Option<Set>, phases: u8, chunk_count: u32, ratchet: u32) -> Vec<u8> {
+    let kind = if own_set.is_some() { 6 } else { 1 };
+    let mut store = vec![kind, 1, 2, 3, 4, 5, 6, 7, 8, phases];
     store.extend(chunk_count.to_le_bytes());
     store.extend(ratchet.to_le_bytes());
+    if let Some(set) = own_set {
+        store.push(set.tag_length);
+        store.extend(set.data_limit.to_le_bytes());
+        store.extend(set.log_capacity.to_le_bytes());
+    }
     for index in 0..chunk_count as usize * KEY_LENGTH {
         store.push((index * 7 % 255) as u8 + 1);
     }
@@ -23,11 +36,7 @@ fn store(phases: u8, chunk_count: u32, ratchet: u32) -> Vec<u8> {
 }
 
 fn material(phases: u8, chunk_count: u32, ratchet: u32, seal_memory: usize) -> Material {
-    Material {
-        store: store(phases, chunk_count, ratchet),
-        log_memory: vec![0xee; LOG_CAPACITY * usize::from(phases)],
-        seal_memory: vec![0xdd; seal_memory],
-    }
+    Device::new(phases, chunk_count, ratchet, seal_memory).material
 }
 
 /// A device: what it lends and its sealing state.
@@ -39,8 +48,25 @@ struct Device {
 
 impl Device {
     fn new(phases: u8, chunk_count: u32, ratchet: u32, seal_memory: usize) -> Device {
+        Device::of(None, phases, chunk_count, ratchet, seal_memory)
+    }
+
+    /// A device whose store, of kind 6, has a set of its own, or none.
+    fn of(
+        own_set: Option<Set>,
+        phases: u8,
+        chunk_count: u32,
+        ratchet: u32,
+        seal_memory: usize,
+    ) -> Device {
+        let log_capacity = own_set.unwrap_or(Set::COMMON).log_capacity as usize;
+        let material = Material {
+            store: store_of(own_set, phases, chunk_count, ratchet),
+            log_memory: vec![0xee; log_capacity * usize::from(phases)],
+            seal_memory: vec![0xdd; seal_memory],
+        };
         Device {
-            material: material(phases, chunk_count, ratchet, seal_memory),
+            material,
             state: State::default(),
         }
     }

@@ -2,7 +2,6 @@
 
 use super::*;
 
-const TAG: [u8; TAG_LENGTH] = [0xaa; TAG_LENGTH];
 const ITEM_7: Position = Position {
     chunk: 2,
     offset: 1,
@@ -12,13 +11,24 @@ const ITEM_8: Position = Position {
     offset: 2,
 };
 
-/// The head's bytes, and the item read back from its bytes.
+/// The head's bytes, and items with tags of each length read back from their
+/// bytes.
 fn assert_head(head: Head, bytes: &[u8]) {
-    let item = Item { head, tag: TAG };
     assert_eq!(head.to_bytes(), bytes);
-    assert_eq!(item.to_bytes(), [bytes, &TAG].concat());
-    assert_eq!(Item::parse(&item.to_bytes()), Some(item));
-    assert_eq!(item.to_bytes().len(), item.byte_count());
+    for tag_length in 16..=32 {
+        let set = Set {
+            tag_length,
+            ..Set::COMMON
+        };
+        let tag = vec![0xaa; usize::from(tag_length)];
+        let item = Item { head, tag };
+        let whole = item.to_bytes();
+        assert_eq!(whole, [bytes, &item.tag].concat());
+        assert_eq!(whole.len(), item.byte_count());
+        assert_eq!(Item::parse(set, &whole[1..]), None);
+        assert_eq!(Item::parse(set, &whole[..whole.len() - 1]), None);
+        assert_eq!(Item::parse(set, &[&whole[..], &[7]].concat()), Some(item));
+    }
 }
 
 #[test]

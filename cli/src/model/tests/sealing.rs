@@ -3,7 +3,7 @@
 use super::*;
 
 /// The refusals of open, append and close, each on a copy.
-fn refusals(device: &Device) -> [u32; 3] {
+pub(super) fn refusals(device: &Device) -> [u32; 3] {
     let phases = device.material.store.get(9).copied().unwrap_or(0);
     [
         device.clone().open(&vec![0; usize::from(phases)], 0),
@@ -12,7 +12,7 @@ fn refusals(device: &Device) -> [u32; 3] {
     ]
 }
 
-fn with_store_byte(device: &Device, index: usize, value: u8) -> Device {
+pub(super) fn with_store_byte(device: &Device, index: usize, value: u8) -> Device {
     let mut device = device.clone();
     device.material.store[index] = value;
     device
@@ -127,7 +127,7 @@ fn refusal_6_at_opening() {
 }
 
 /// Refusals of append and close.
-fn of_state(device: &Device, change: impl Fn(&mut State)) -> [u32; 2] {
+pub(super) fn of_state(device: &Device, change: impl Fn(&mut State)) -> [u32; 2] {
     let [_, append, close] = refusals(&with_state(device, change));
     [append, close]
 }

@@ -7,7 +7,7 @@ const REFUSED_BY_1: (u32, [u8; 32]) = (1, [0; 32]);
 const REFUSED_BY_26: (u32, [u8; 32]) = (26, [0; 32]);
 
 /// In HMAC's place: every byte says its place, counted from 1.
-fn numbered(_: &[u8], _: &[&[u8]]) -> [u8; TAG_LENGTH] {
+fn numbered(_: &[u8], _: &[&[u8]]) -> [u8; HMAC_LENGTH] {
     std::array::from_fn(|index| index as u8 + 1)
 }
 
@@ -36,11 +36,17 @@ fn tag_of_128_bits() {
 }
 
 #[test]
-fn tags_of_items_and_keys_are_whole() {
-    let position = Position::default();
-    let item = Head::Filler { position }.seal(numbered, b"key", &[]);
+fn tags_of_items_are_cut_and_keys_are_whole() {
     let whole = numbered(&[], &[]);
-    assert_eq!(item.tag, whole);
+    for tag_length in 16..=32 {
+        let set = Set {
+            tag_length,
+            ..Set::COMMON
+        };
+        let position = Position::default();
+        let item = Head::Filler { position }.seal(set, numbered, b"key", &[]);
+        assert_eq!(item.tag, whole[..usize::from(tag_length)]);
+    }
     assert_eq!(next_key(numbered, b"key", 1, 2), whole);
 }
 

@@ -83,9 +83,14 @@ impl Case {
         case
     }
 
+    /// That of the auditor's store.
+    fn header(&self) -> Header {
+        Header::parse(&self.auditor_store).expect("a store")
+    }
+
     /// N, which the auditor's store has.
     fn ratchet(&self) -> u32 {
-        Header::parse(&self.auditor_store).expect("a store").ratchet
+        self.header().ratchet
     }
 
     fn position(&self, number: usize) -> Position {
@@ -106,8 +111,9 @@ impl Case {
             key.offset,
             self.ratchet(),
         );
+        let set = self.header().set();
         match item {
-            None => Head::Filler { position: named }.seal(plain_hmac, &key, &[]),
+            None => Head::Filler { position: named }.seal(set, plain_hmac, &key, &[]),
             Some((phase, offset, length)) => {
                 let head = Head::Entry {
                     phase,
@@ -115,7 +121,7 @@ impl Case {
                     length,
                     position: named,
                 };
-                head.seal(plain_hmac, &key, self.data(phase, offset, length))
+                head.seal(set, plain_hmac, &key, self.data(phase, offset, length))
             }
         }
     }
@@ -135,10 +141,11 @@ impl Case {
 
     /// The seal file taken apart into its items.
     fn items(&self) -> Vec<Vec<u8>> {
+        let set = self.header().set();
         let mut items = Vec::new();
         let mut rest = &self.seal_file[..];
         while !rest.is_empty() {
-            let length = Item::parse(rest).expect("an item").byte_count();
+            let length = Item::parse(set, rest).expect("an item").byte_count();
             let (item, behind) = rest.split_at(length);
             items.push(item.to_vec());
             rest = behind;
