@@ -88,16 +88,85 @@ uint32_t pahyndoi_hmac_sha256(const uint8_t *key, size_t key_length,
  */
 
 /*
- * The sizes, in bytes. A key store is a header and its chunks. The log memory
- * is a log for each phase, that of phase p from byte 8,192 * (p - 1) on. A
- * seal file is entry and filler items, one behind the other. docs/FORMAT.md, 2
- * to 4, gives their layouts.
+ * A key store is a header and its chunks of 32 bytes. Its first byte is its
+ * kind. In kind 1 the header has 18 bytes: kind (1 byte), id (8), phases (1),
+ * chunk count (4) and ratchet (4). In kind 6 it has 27: these fields, and
+ * behind them a set of three parameters of the store's own,
+ *
+ *   from byte 18, 1 byte   the tag length: how many bytes the tag of an item
+ *                          has, from the front of its HMAC; 16 to 32;
+ *   from byte 19, 4 bytes  the data limit: how many bytes the data of an entry
+ *                          have at most; 1 to 4,096;
+ *   from byte 23, 4 bytes  the log capacity: how many bytes of the log memory
+ *                          each phase has; 512 to 65,536, and not below the
+ *                          data limit.
+ *
+ * Numbers are little-endian. A store of kind 1 has the set 32, 512, 8,192.
+ * docs/FORMAT.md, 2 to 4, gives the layouts.
+ *
+ * Whoever makes the store picks the set, and firmware must size its memories by
+ * it. No call is handed a set: each reads it from the store that it is lent,
+ * and refuses a log memory of another size (3). Firmware made for one set
+ * compares the store's with it before anything else. Firmware for every store
+ * needs 32,795 bytes for the store, 524,288 for the logs and 13,107,200 for the
+ * seal memory.
+ *
+ * A store of kind 1 and one of kind 6 with the set 32, 512, 8,192 have items,
+ * logs and limits alike, but are different stores: their headers have 18 and 27
+ * bytes, and the audit refuses the one beside the other (13).
  */
+#define PAHYNDOI_COMMON_SET_KIND 1
+#define PAHYNDOI_OWN_SET_KIND 6
+
+/* The bytes of the header in kind 1, of that in kind 6, and of a chunk. */
 #define PAHYNDOI_HEADER_SIZE 18
+#define PAHYNDOI_OWN_SET_HEADER_SIZE 27
 #define PAHYNDOI_CHUNK_SIZE 32
+
+/*
+ * The least and the most that a data limit and a log capacity may be. Those of
+ * the tag length are PAHYNDOI_SHORTEST_TAG and PAHYNDOI_LONGEST_TAG.
+ */
+#define PAHYNDOI_SMALLEST_DATA_LIMIT 1
+#define PAHYNDOI_LARGEST_DATA_LIMIT 4096
+#define PAHYNDOI_SMALLEST_LOG_CAPACITY 512
+#define PAHYNDOI_LARGEST_LOG_CAPACITY 65536
+
+/*
+ * Of kind 1: tag length, data limit and log capacity, and the bytes of an entry
+ * and of a filler item.
+ */
+#define PAHYNDOI_TAG_SIZE 32
+#define PAHYNDOI_DATA_LIMIT 512
 #define PAHYNDOI_LOG_SIZE 8192
 #define PAHYNDOI_ENTRY_SIZE 50
 #define PAHYNDOI_FILLER_SIZE 41
+
+/*
+ * Of every set, in bytes. Each is a constant where its arguments are, in #if as
+ * well, has an unsigned type and evaluates each argument once. Nothing is
+ * checked: of arguments that no store has it says nothing.
+ *
+ *   ENTRY_SIZE_OF   An entry item: 18 bytes and the tag.
+ *   FILLER_SIZE_OF  A filler item: 9 bytes and the tag.
+ *   LOGS_SIZE_OF    The log memory, exactly: a log for each phase.
+ *   LOG_PLACE_OF    Where in it the log of a phase begins; phase 1 is the
+ *                   first, at 0.
+ *   STORE_SIZE_OF   The store, exactly: a header of this size and the chunks.
+ *   SEAL_SIZE_OF    A seal memory that has room for an entry under every key. A
+ *                   seal file is entry and filler items, one behind the other,
+ *                   so none is longer. A smaller memory may fill up (10).
+ */
+#define PAHYNDOI_ENTRY_SIZE_OF(tag_length) (18u + (tag_length))
+#define PAHYNDOI_FILLER_SIZE_OF(tag_length) (9u + (tag_length))
+#define PAHYNDOI_LOGS_SIZE_OF(log_capacity, phases) \
+    (1u * (log_capacity) * (phases))
+#define PAHYNDOI_LOG_PLACE_OF(log_capacity, phase) \
+    ((log_capacity) * ((phase) - 1u))
+#define PAHYNDOI_STORE_SIZE_OF(header_size, chunks) \
+    ((header_size) + 32u * (chunks))
+#define PAHYNDOI_SEAL_SIZE_OF(tag_length, chunks, ratchet) \
+    (PAHYNDOI_ENTRY_SIZE_OF(tag_length) * (chunks) * (ratchet))
 
 /*
  * Open, append, close, the audit, item_at and least_ratchet answer one 64-bit
