@@ -181,28 +181,30 @@ uint32_t pahyndoi_hmac_sha256(const uint8_t *key, size_t key_length,
  * The refusals, in checking order: of those that a call checks, the first that
  * holds is the answer. A chunk is burned if all its bytes are zero; P says how
  * many chunks at the front of the device store are burned, N is the ratchet,
- * the number of keys of a chunk. When a state fits stands at pahyndoi_state;
+ * the number of keys of a chunk. Data limit and log capacity are the store's,
+ * 512 and 8,192 in kind 1. When a state fits stands at pahyndoi_state;
  * docs/FORMAT.md, 8 and 9, has the exact conditions, and what waiting and
  * covered mean.
  */
 enum pahyndoi_refusal {
     /* A message or a key handed to the hash has more than 1,048,576 bytes. */
     PAHYNDOI_TOO_LONG = 1,
-    /* The store lacks a whole header of kind 1, has phases, chunk count or
-       ratchet out of range, or is not as long as its header says. */
+    /* The store lacks a whole header of kind 1 or 6, has phases, chunk count,
+       ratchet or set out of range, or is not as long as its header says. */
     PAHYNDOI_BAD_STORE = 2,
-    /* The log memory is not 8,192 bytes for each phase. */
+    /* The log memory is not the log capacity times the phases. */
     PAHYNDOI_BAD_LOGS = 3,
     /* A chunk is burned although an earlier one is not. */
     PAHYNDOI_BURNED_AFTER_UNBURNED = 4,
-    /* The lengths are not one for each phase, or one is above 8,192. */
+    /* The lengths are not one for each phase, or one is above the log
+       capacity. */
     PAHYNDOI_BAD_LENGTHS = 5,
     /* Open is given a seal length beyond the seal memory, or append or close a
        state that does not fit. */
     PAHYNDOI_STATE_UNFIT = 6,
     /* The phase is not one of the store's. */
     PAHYNDOI_NO_SUCH_PHASE = 7,
-    /* The data are empty or longer than 512 bytes. */
+    /* The data are empty or longer than the data limit. */
     PAHYNDOI_BAD_DATA_LENGTH = 8,
     /* The phase's log has no room for the data. */
     PAHYNDOI_LOG_FULL = 9,
@@ -226,7 +228,7 @@ enum pahyndoi_refusal {
        gives. */
     PAHYNDOI_WRONG_PLACE = 17,
     /* The entry names no phase of the store, has a data length outside 1 to
-       512, or reaches past its phase's length. */
+       the data limit, or reaches past its phase's length. */
     PAHYNDOI_BAD_AREA = 18,
     /* The entry's area overlaps that of an earlier entry of its phase. */
     PAHYNDOI_AREA_SHARED = 19,
@@ -262,8 +264,8 @@ enum pahyndoi_refusal {
  *    not burned;
  *  - above offset 0: chunk is less than the chunk count, and that chunk is
  *    burned;
- *  - no length is above 8,192, and those of phases that the store does not
- *    have are 0;
+ *  - no length is above the log capacity, and those of phases that the store
+ *    does not have are 0;
  *  - seal_length is at most the size of the seal memory.
  * Any key fits.
  */
@@ -299,10 +301,10 @@ uint64_t pahyndoi_open(pahyndoi_state *state,
 
 /*
  * Copies the data behind the log of the phase (1 is the first), writes one
- * entry item of 50 bytes behind the seal file, sets the chunk in the store to
- * zeros if the offset was 0, and brings the state up to date. The number
- * answered is chunk times N plus offset as the state had them: that of the
- * item, counted from 0, where the calls are a history (docs/FORMAT.md, 10).
+ * entry item, 18 bytes and the tag, behind the seal file, sets the chunk in the
+ * store to zeros if the offset was 0, and brings the state up to date. The
+ * number answered is chunk times N plus offset as the state had them: that of
+ * the item, counted from 0, where the calls are a history (docs/FORMAT.md, 10).
  *
  * Refused in this order: 2, 3, 6, 7, 8, 9, 10, 11. A refused append alters
  * neither state nor store, logs or seal, and answers the number 0.
@@ -318,10 +320,10 @@ uint64_t pahyndoi_append(pahyndoi_state *state,
                          const uint8_t *data, size_t data_size);
 
 /*
- * Writes filler items of 41 bytes each behind the seal file until every key of
- * the half-used chunk is used, and brings the state up to date: it then has
- * offset 0 and a key of zeros. Where the offset is 0 it writes nothing and
- * leaves the state as it is. The number answered is that of the fillers.
+ * Writes filler items, each 9 bytes and the tag, behind the seal file until
+ * every key of the half-used chunk is used, and brings the state up to date: it
+ * then has offset 0 and a key of zeros. Where the offset is 0 it writes nothing
+ * and leaves the state as it is. The number answered is that of the fillers.
  *
  * Refused in this order: 2, 3, 6, 10. A refused close alters neither state nor
  * seal, and answers the number 0.
@@ -341,6 +343,9 @@ uint64_t pahyndoi_close(pahyndoi_state *state,
  *
  * Refused in this order: 2 to 5 and 12 to 14; then 15 to 21 for one item
  * before the next; then 22 and 23.
+ *
+ * The set is the device store's, which is the auditor's as well or is refused
+ * (13): nobody gets shorter tags accepted than the auditor's store says.
  *
  * lengths is 4 bytes a phase, little-endian, and lengths_size counts bytes:
  * another count than 4 times the phases gives refusal 5 in its place in the
@@ -373,9 +378,9 @@ uint64_t pahyndoi_item_at(const uint8_t *device, size_t device_size,
 /*
  * Where the data of that item stand in the log memory, all of them and not
  * only the byte asked for: the answer is the place of their first byte in logs
- * times 2 to the 32, plus how many they are (1 to 512). It is 0 where
- * pahyndoi_item_at, handed the same, is refused, and only there; that call
- * says by which rule. Everything is only read.
+ * times 2 to the 32, plus how many they are (1 to the data limit). It is 0
+ * where pahyndoi_item_at, handed the same, is refused, and only there; that
+ * call says by which rule. Everything is only read.
  */
 uint64_t pahyndoi_data_at(const uint8_t *device, size_t device_size,
                           const uint8_t *auditor, size_t auditor_size,
@@ -396,9 +401,10 @@ uint64_t pahyndoi_data_at(const uint8_t *device, size_t device_size,
  * which these quotients together are at most chunks, 0 where there is none: the
  * card is then too small for any N. A count may be 0. An empty list needs 1.
  *
- * It speaks of chunks alone. The logs of a card take 8,192 bytes a phase, so
- * never more than 65,536 entries; the seal memory needs 50 bytes for an entry
- * and 41 for a filler.
+ * It speaks of chunks alone, and is the same for every set. The logs of a card
+ * take the log capacity for each phase, so in kind 1 never more than 65,536
+ * entries; the seal memory needs 18 bytes and the tag for an entry, 9 and the
+ * tag for a filler.
  *
  * Refused in this order: 25. The number is then 0.
  *
