@@ -8,7 +8,7 @@ extern int listing;
 
 void fail(const char *format, ...);
 
-/* No call goes deeper than the figure of pahyndoi.h. */
+/* With no set does a call go deeper than the figure of pahyndoi.h. */
 void check_figures(void);
 
 /* The wipe overwrites every byte that a sealing call may have touched. */
@@ -17,7 +17,8 @@ void check_wipe(void);
 /* The search sees each form of a key, and after a wipe it does not. */
 void check_search(void);
 
-/* Keys stand in the dead stack after a call, and after its wipe no piece of one in any form. */
+/* With every set keys stand in the dead stack after a call, and after its wipe no piece of one in
+   any form. */
 void check_keys(int wiped);
 
 #endif

@@ -2,16 +2,35 @@
 
 #include <string.h>
 
-enum { STORE_KIND = 1, ENTRY_KIND = 2, RATCHET_KIND = 4, HEAD_SIZE = 18 };
+enum { ENTRY_KIND = 2, RATCHET_KIND = 4, HEAD_SIZE = 18 };
+
+#if PAHYNDOI_ENTRY_SIZE_OF(PAHYNDOI_TAG_SIZE) != PAHYNDOI_ENTRY_SIZE || \
+    PAHYNDOI_FILLER_SIZE_OF(PAHYNDOI_TAG_SIZE) != PAHYNDOI_FILLER_SIZE
+#error "the items of kind 1 have other sizes than those of its set"
+#endif
+
+const struct set sets[SETS] = {
+    [KIND_1] = {PAHYNDOI_COMMON_SET_KIND, PAHYNDOI_TAG_SIZE, PAHYNDOI_DATA_LIMIT,
+                PAHYNDOI_LOG_SIZE},
+    [SAME_SET] = {PAHYNDOI_OWN_SET_KIND, PAHYNDOI_TAG_SIZE, PAHYNDOI_DATA_LIMIT,
+                  PAHYNDOI_LOG_SIZE},
+    [SMALLEST] = {PAHYNDOI_OWN_SET_KIND, PAHYNDOI_SHORTEST_TAG, PAHYNDOI_SMALLEST_DATA_LIMIT,
+                  PAHYNDOI_SMALLEST_LOG_CAPACITY},
+    [NO_ROOM] = {PAHYNDOI_OWN_SET_KIND, PAHYNDOI_SHORTEST_TAG + 1, PAHYNDOI_LARGEST_DATA_LIMIT,
+                 PAHYNDOI_LARGEST_DATA_LIMIT},
+    [LARGEST] = {PAHYNDOI_OWN_SET_KIND, PAHYNDOI_LONGEST_TAG, PAHYNDOI_LARGEST_DATA_LIMIT,
+                 PAHYNDOI_LARGEST_LOG_CAPACITY},
+};
+const struct set *set = &sets[KIND_1];
 
 struct secret secrets[KEYS_MOST];
 size_t keys_count;
 
-uint8_t store[PAHYNDOI_HEADER_SIZE + CHUNKS * PAHYNDOI_CHUNK_SIZE];
+uint8_t store[PAHYNDOI_STORE_SIZE_OF(PAHYNDOI_OWN_SET_HEADER_SIZE, CHUNKS)];
 uint8_t auditor[sizeof store];
-uint8_t logs[PHASES * PAHYNDOI_LOG_SIZE];
-uint8_t seal[KEYS_MOST * PAHYNDOI_ENTRY_SIZE];
-size_t store_size, logs_size, seal_size, lengths_count;
+uint8_t logs[PAHYNDOI_LOGS_SIZE_OF(PAHYNDOI_LARGEST_LOG_CAPACITY, PHASES)];
+uint8_t seal[PAHYNDOI_SEAL_SIZE_OF(PAHYNDOI_LONGEST_TAG, CHUNKS, RATCHET_MOST)];
+size_t store_size, auditor_size, logs_size, seal_size, lengths_count;
 pahyndoi_state state;
 
 uint8_t phase;
@@ -31,6 +50,28 @@ static void put_number(uint8_t *bytes, uint32_t number)
         bytes[i] = (uint8_t)(number >> (8 * i));
 }
 
+size_t allowed(size_t size)
+{
+    return size < set->data_limit ? size : set->data_limit;
+}
+
+static size_t header_size(void)
+{
+    return set->kind == PAHYNDOI_OWN_SET_KIND ? PAHYNDOI_OWN_SET_HEADER_SIZE : PAHYNDOI_HEADER_SIZE;
+}
+
+uint8_t *chunk_of(uint8_t *of_store, size_t number)
+{
+    return of_store + header_size() + number * PAHYNDOI_CHUNK_SIZE;
+}
+
+void put_set(uint8_t *of_store, const struct set *parameters)
+{
+    of_store[18] = parameters->tag_length;
+    put_number(of_store + 19, parameters->data_limit);
+    put_number(of_store + 23, parameters->log_capacity);
+}
+
 /* The keys of each chunk: the chunk, then each the HMAC of the ratchet message under the one
    before. */
 static void make_keys(uint32_t ratchet)
@@ -39,7 +80,7 @@ static void make_keys(uint32_t ratchet)
     keys_count = CHUNKS * ratchet;
     for (uint32_t k = 0; k < keys_count; k++) {
         if (k % ratchet == 0) {
-            memcpy(key, auditor + PAHYNDOI_HEADER_SIZE + k / ratchet * KEY_SIZE, KEY_SIZE);
+            memcpy(key, chunk_of(auditor, k / ratchet), KEY_SIZE);
         } else {
             uint8_t message[9] = {RATCHET_KIND};
             put_number(message + 1, k % ratchet);
@@ -50,21 +91,29 @@ static void make_keys(uint32_t ratchet)
     }
 }
 
-void unused_device(uint32_t ratchet)
+static void unused_store(uint32_t ratchet)
 {
     memset(store, 0, sizeof store);
-    store[0] = STORE_KIND;
+    store[0] = set->kind;
     store[9] = PHASES;
     put_number(store + 10, CHUNKS);
     put_number(store + 14, ratchet);
+    if (set->kind == PAHYNDOI_OWN_SET_KIND)
+        put_set(store, set);
     for (uint8_t c = 0; c < CHUNKS; c++)
-        pahyndoi_sha256(&c, 1, store + PAHYNDOI_HEADER_SIZE + c * PAHYNDOI_CHUNK_SIZE);
+        pahyndoi_sha256(&c, 1, chunk_of(store, c));
+}
+
+void unused_device(uint32_t ratchet)
+{
+    unused_store(ratchet);
     memcpy(auditor, store, sizeof store);
     make_keys(ratchet);
     memset(&state, 0, sizeof state);
-    store_size = sizeof store;
-    logs_size = sizeof logs;
-    seal_size = sizeof seal;
+    store_size = PAHYNDOI_STORE_SIZE_OF(header_size(), CHUNKS);
+    auditor_size = store_size;
+    logs_size = PAHYNDOI_LOGS_SIZE_OF(set->log_capacity, PHASES);
+    seal_size = PAHYNDOI_SEAL_SIZE_OF(set->tag_length, CHUNKS, RATCHET_MOST);
     lengths_count = PHASES;
     phase = 1;
     offset = 0;
@@ -101,21 +150,21 @@ static const uint8_t *lengths_of_state(void)
 
 void audit_job(void)
 {
-    answer = pahyndoi_audit(store, store_size, auditor, sizeof auditor, logs, logs_size,
+    answer = pahyndoi_audit(store, store_size, auditor, auditor_size, logs, logs_size,
                             lengths_of_state(), 4 * lengths_count, seal,
                             (size_t)state.seal_length);
 }
 
 void item_at_job(void)
 {
-    answer = pahyndoi_item_at(store, store_size, auditor, sizeof auditor, logs, logs_size,
+    answer = pahyndoi_item_at(store, store_size, auditor, auditor_size, logs, logs_size,
                               lengths_of_state(), 4 * lengths_count, seal,
                               (size_t)state.seal_length, phase, offset);
 }
 
 void data_at_job(void)
 {
-    answer = pahyndoi_data_at(store, store_size, auditor, sizeof auditor, logs, logs_size,
+    answer = pahyndoi_data_at(store, store_size, auditor, auditor_size, logs, logs_size,
                               lengths_of_state(), 4 * lengths_count, seal,
                               (size_t)state.seal_length, phase, offset);
 }
@@ -143,9 +192,10 @@ void craft_entry(uint8_t of_phase, uint32_t from, uint32_t size)
 {
     uint8_t *item = seal + state.seal_length;
     uint32_t ratchet = (uint32_t)keys_count / CHUNKS;
-    uint32_t number = (uint32_t)(state.seal_length / PAHYNDOI_ENTRY_SIZE);
-    uint8_t message[HEAD_SIZE + 512];
-    memset(store + PAHYNDOI_HEADER_SIZE + number / ratchet * KEY_SIZE, 0, KEY_SIZE);
+    uint32_t entry_size = PAHYNDOI_ENTRY_SIZE_OF(set->tag_length);
+    uint32_t number = (uint32_t)(state.seal_length / entry_size);
+    uint8_t message[HEAD_SIZE + PAHYNDOI_LARGEST_DATA_LIMIT], tag[KEY_SIZE];
+    memset(chunk_of(store, number / ratchet), 0, PAHYNDOI_CHUNK_SIZE);
     item[0] = ENTRY_KIND;
     item[1] = of_phase;
     put_number(item + 2, from);
@@ -153,7 +203,9 @@ void craft_entry(uint8_t of_phase, uint32_t from, uint32_t size)
     put_number(item + 10, number / ratchet);
     put_number(item + 14, number % ratchet);
     memcpy(message, item, HEAD_SIZE);
-    memcpy(message + HEAD_SIZE, logs + (of_phase - 1) * PAHYNDOI_LOG_SIZE + from, size);
-    tag_by_values(item + HEAD_SIZE, &secrets[number], message, HEAD_SIZE + size);
-    state.seal_length += PAHYNDOI_ENTRY_SIZE;
+    memcpy(message + HEAD_SIZE, logs + PAHYNDOI_LOG_PLACE_OF(set->log_capacity, of_phase) + from,
+           size);
+    tag_by_values(tag, &secrets[number], message, HEAD_SIZE + size);
+    memcpy(item + HEAD_SIZE, tag, set->tag_length);
+    state.seal_length += entry_size;
 }

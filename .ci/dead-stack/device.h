@@ -13,20 +13,41 @@
 
 enum { PHASES = 8, CHUNKS = 3, RATCHET_MOST = 256, KEYS_MOST = CHUNKS * RATCHET_MOST };
 
+/* What a store sets, and its kind. Tried are kind 1; and of kind 6 the same set, the least of
+   everything, the longest data in logs with room for nothing else, and the most of everything. */
+struct set {
+    uint8_t kind, tag_length;
+    uint32_t data_limit, log_capacity;
+};
+enum { KIND_1, SAME_SET, SMALLEST, NO_ROOM, LARGEST, SETS };
+extern const struct set sets[SETS];
+
+/* The one of these that the device has. */
+extern const struct set *set;
+
+/* So many bytes of data, or the data limit if that is less. */
+size_t allowed(size_t size);
+
 /* Device and auditor share an unused store of three chunks with so many keys each; logs and seal
    file are empty. */
 void unused_device(uint32_t ratchet);
+
+/* The chunk of this number in a store of the device's kind. */
+uint8_t *chunk_of(uint8_t *of_store, size_t number);
+
+/* Writes parameters, whether in range or not, into a header of kind 6. */
+void put_set(uint8_t *of_store, const struct set *parameters);
 
 /* The forms of the keys of the store, by item number, and how many there are. */
 extern struct secret secrets[KEYS_MOST];
 extern size_t keys_count;
 
 /* What is lent. A test may shorten, damage or overfill it. */
-extern uint8_t store[PAHYNDOI_HEADER_SIZE + CHUNKS * PAHYNDOI_CHUNK_SIZE];
+extern uint8_t store[PAHYNDOI_STORE_SIZE_OF(PAHYNDOI_OWN_SET_HEADER_SIZE, CHUNKS)];
 extern uint8_t auditor[sizeof store];
-extern uint8_t logs[PHASES * PAHYNDOI_LOG_SIZE];
-extern uint8_t seal[KEYS_MOST * PAHYNDOI_ENTRY_SIZE];
-extern size_t store_size, logs_size, seal_size, lengths_count;
+extern uint8_t logs[PAHYNDOI_LOGS_SIZE_OF(PAHYNDOI_LARGEST_LOG_CAPACITY, PHASES)];
+extern uint8_t seal[PAHYNDOI_SEAL_SIZE_OF(PAHYNDOI_LONGEST_TAG, CHUNKS, RATCHET_MOST)];
+extern size_t store_size, auditor_size, logs_size, seal_size, lengths_count;
 extern pahyndoi_state state;
 
 /* What append is handed besides, and what sha256 and hmac are: the bytes are zeros. wanted is how

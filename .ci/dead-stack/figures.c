@@ -58,9 +58,9 @@ static void measure_open(void)
 {
     unused_device(4);
     measure(&opening, 0);
-    memset(store + PAHYNDOI_HEADER_SIZE, 0, PAHYNDOI_CHUNK_SIZE);
+    memset(chunk_of(store, 0), 0, PAHYNDOI_CHUNK_SIZE);
     measure(&opening, 0);
-    memset(store + PAHYNDOI_HEADER_SIZE + 2 * PAHYNDOI_CHUNK_SIZE, 0, PAHYNDOI_CHUNK_SIZE);
+    memset(chunk_of(store, 2), 0, PAHYNDOI_CHUNK_SIZE);
     measure(&opening, PAHYNDOI_BURNED_AFTER_UNBURNED);
     logs_size = 0;
     measure(&opening, PAHYNDOI_BAD_LOGS);
@@ -70,25 +70,28 @@ static void measure_open(void)
     lengths_count = PHASES - 1;
     measure(&opening, PAHYNDOI_BAD_LENGTHS);
     unused_device(4);
-    state.seal_length = sizeof seal + 1;
+    state.seal_length = seal_size + 1;
     measure(&opening, PAHYNDOI_STATE_UNFIT);
 }
 
-/* Data that end before, at and behind the ends of the hash's blocks, under chunks and held keys. */
+/* Data that end before, at and behind the ends of the hash's blocks, and the longest, under chunks
+   and held keys; each at the front of an empty log. */
 static void measure_append(void)
 {
-    static const size_t sizes[] = {1, 36, 37, 38, 45, 46, 47, 64, 101, 110, 111, 512};
+    static const size_t sizes[] = {1,  36, 37,  38,  45,  46,
+                                   47, 64, 101, 110, 111, PAHYNDOI_LARGEST_DATA_LIMIT};
     unused_device(4);
     for (size_t i = 0; i < sizeof sizes / sizeof sizes[0]; i++) {
-        data_size = sizes[i];
+        data_size = allowed(sizes[i]);
         measure(&appending, 0);
+        state.lengths[0] = 0;
     }
     measure(&appending, PAHYNDOI_KEYS_SPENT);
     seal_size = (size_t)state.seal_length;
     measure(&appending, PAHYNDOI_SEAL_FULL);
-    state.lengths[0] = PAHYNDOI_LOG_SIZE;
+    state.lengths[0] = set->log_capacity;
     measure(&appending, PAHYNDOI_LOG_FULL);
-    data_size = 513;
+    data_size = set->data_limit + 1;
     measure(&appending, PAHYNDOI_BAD_DATA_LENGTH);
     phase = 0;
     measure(&appending, PAHYNDOI_NO_SUCH_PHASE);
@@ -130,6 +133,16 @@ static void craft_waiting(uint32_t waiting)
         state.lengths[p] = waiting + 1;
 }
 
+/* In every phase one area, as long as may be. */
+static void craft_longest(void)
+{
+    unused_device(PHASES);
+    for (uint8_t p = 1; p <= PHASES; p++)
+        craft_entry(p, 0, set->data_limit);
+    for (size_t p = 0; p < PHASES; p++)
+        state.lengths[p] = set->data_limit;
+}
+
 /* The audit and both lookups, all refused alike. */
 static void measure_refused(uint32_t refusal)
 {
@@ -137,22 +150,32 @@ static void measure_refused(uint32_t refusal)
     measure_lookups(refusal);
 }
 
-/* Nothing sealed; then material in which the last item of all has the byte looked up. */
+/* Material of so many items, of which the last of all has the last phase's first bytes, so many. */
+static void measure_last(uint32_t items, uint32_t size)
+{
+    measure(&auditing, 0);
+    if (PAHYNDOI_NUMBER(answer) != items)
+        fail("the audit counted %u items", (unsigned)PAHYNDOI_NUMBER(answer));
+    phase = PHASES;
+    offset = size - 1;
+    measure_lookups(0);
+    if (PAHYNDOI_PLACE(answer) != PAHYNDOI_LOG_PLACE_OF(set->log_capacity, PHASES) ||
+        PAHYNDOI_LENGTH(answer) != size)
+        fail("data_at found %u bytes from byte %u of the logs on",
+             (unsigned)PAHYNDOI_LENGTH(answer), (unsigned)PAHYNDOI_PLACE(answer));
+    offset = state.lengths[PHASES - 1];
+    measure_lookups(PAHYNDOI_NO_SUCH_BYTE);
+}
+
 static void measure_accepted(void)
 {
     unused_device(4);
     measure(&auditing, 0);
     measure_lookups(PAHYNDOI_NO_SUCH_BYTE);
     craft_waiting(16);
-    measure(&auditing, 0);
-    if (PAHYNDOI_NUMBER(answer) != PHASES * 17)
-        fail("the audit counted %u items", (unsigned)PAHYNDOI_NUMBER(answer));
-    phase = PHASES;
-    measure_lookups(0);
-    if (PAHYNDOI_PLACE(answer) != (PHASES - 1) * PAHYNDOI_LOG_SIZE)
-        fail("data_at found byte %u of the logs", (unsigned)PAHYNDOI_PLACE(answer));
-    offset = 17;
-    measure_lookups(PAHYNDOI_NO_SUCH_BYTE);
+    measure_last(PHASES * 17, 1);
+    craft_longest();
+    measure_last(PHASES, set->data_limit);
 }
 
 static void measure_audit(void)
@@ -163,18 +186,62 @@ static void measure_audit(void)
     measure_refused(PAHYNDOI_NOT_COVERED);
     seal[state.seal_length - 1] ^= 1;
     measure_refused(PAHYNDOI_WRONG_TAG);
-    state.seal_length -= PAHYNDOI_ENTRY_SIZE;
+    state.seal_length -= PAHYNDOI_ENTRY_SIZE_OF(set->tag_length);
     measure_refused(PAHYNDOI_ITEMS_MISSING);
     craft_waiting(17);
     measure_refused(PAHYNDOI_TOO_MANY_WAITING);
     craft_waiting(1);
-    craft_entry(1, 0, 512);
-    state.lengths[0] = 512;
+    craft_entry(1, 0, set->data_limit);
+    if (state.lengths[0] < set->data_limit)
+        state.lengths[0] = set->data_limit;
     measure_refused(PAHYNDOI_AREA_SHARED);
-    auditor[PAHYNDOI_HEADER_SIZE + 2 * PAHYNDOI_CHUNK_SIZE] ^= 1;
+    *chunk_of(auditor, 2) ^= 1;
     measure_refused(PAHYNDOI_CHUNK_DIFFERS);
+    auditor[1] ^= 1;
+    measure_refused(PAHYNDOI_HEADERS_DIFFER);
     auditor[0] = 0;
     measure_refused(PAHYNDOI_BAD_AUDITOR_STORE);
+}
+
+/* Every call that is handed a store, with one that no call takes. */
+static void measure_bad_store(void)
+{
+    measure(&opening, PAHYNDOI_BAD_STORE);
+    measure(&appending, PAHYNDOI_BAD_STORE);
+    measure(&closing, PAHYNDOI_BAD_STORE);
+    measure_refused(PAHYNDOI_BAD_STORE);
+}
+
+/* Each parameter at both sides of its range, and a log capacity below the data limit; in the
+   device's store, and in the auditor's alone. */
+static void measure_bad_sets(void)
+{
+    static const struct set bad[] = {
+        {PAHYNDOI_OWN_SET_KIND, 15, 512, 8192},  {PAHYNDOI_OWN_SET_KIND, 33, 512, 8192},
+        {PAHYNDOI_OWN_SET_KIND, 32, 0, 8192},    {PAHYNDOI_OWN_SET_KIND, 32, 4097, 8192},
+        {PAHYNDOI_OWN_SET_KIND, 32, 511, 511},   {PAHYNDOI_OWN_SET_KIND, 32, 512, 65537},
+        {PAHYNDOI_OWN_SET_KIND, 32, 4096, 4095},
+    };
+    set = &sets[SAME_SET];
+    for (size_t i = 0; i < sizeof bad / sizeof bad[0]; i++) {
+        unused_device(4);
+        put_set(store, &bad[i]);
+        measure_bad_store();
+        unused_device(4);
+        put_set(auditor, &bad[i]);
+        measure_refused(PAHYNDOI_BAD_AUDITOR_STORE);
+    }
+}
+
+/* The auditor's store is of kind 1, the device's of kind 6 with the same set and chunks. */
+static void measure_other_kind(void)
+{
+    set = &sets[SAME_SET];
+    unused_device(4);
+    auditor[0] = PAHYNDOI_COMMON_SET_KIND;
+    memcpy(auditor + PAHYNDOI_HEADER_SIZE, chunk_of(store, 0), CHUNKS * PAHYNDOI_CHUNK_SIZE);
+    auditor_size = PAHYNDOI_STORE_SIZE_OF(PAHYNDOI_HEADER_SIZE, CHUNKS);
+    measure_refused(PAHYNDOI_HEADERS_DIFFER);
 }
 
 /* Tags of the fewest and of the most bytes under the key. */
@@ -236,10 +303,15 @@ void check_figures(void)
 {
     const struct call *calls[] = {&opening,      &appending,    &closing, &auditing, &item_finding,
                                   &data_finding, &hashing,      &tagging, &planning};
-    measure_open();
-    measure_append();
-    measure_close();
-    measure_audit();
+    for (size_t i = 0; i < SETS; i++) {
+        set = &sets[i];
+        measure_open();
+        measure_append();
+        measure_close();
+        measure_audit();
+    }
+    measure_bad_sets();
+    measure_other_kind();
     measure_hashes();
     measure_plans();
     for (size_t i = 0; listing && i < sizeof calls / sizeof calls[0]; i++)

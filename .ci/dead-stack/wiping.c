@@ -85,16 +85,19 @@ void check_search(void)
     }
 }
 
-/* Calls of a device: each with the size of the data, where it appends. */
+enum { LONGEST = PAHYNDOI_LARGEST_DATA_LIMIT };
+
+/* Calls of a device: each with the size of the data, where it appends, or the most that the set
+   allows. */
 static const struct step {
     const char *name;
     void (*job)(void);
     size_t size;
 } steps[] = {
-    {"open", open_job, 0},      {"append", append_job, 1},   {"append", append_job, 512},
-    {"append", append_job, 20}, {"append", append_job, 64},  {"append", append_job, 512},
-    {"append", append_job, 2},  {"close", close_job, 0},     {"open", open_job, 0},
-    {"append", append_job, 40}, {"append", append_job, 512}, {"append", append_job, 0},
+    {"open", open_job, 0},      {"append", append_job, 1},       {"append", append_job, LONGEST},
+    {"append", append_job, 20}, {"append", append_job, 64},      {"append", append_job, LONGEST},
+    {"append", append_job, 2},  {"close", close_job, 0},         {"open", open_job, 0},
+    {"append", append_job, 40}, {"append", append_job, LONGEST}, {"append", append_job, 0},
     {"close", close_job, 0},    {"open", open_job, 0},
 };
 
@@ -129,16 +132,18 @@ static void check_gone(const struct step *step)
     }
 }
 
-void check_keys(int wiped)
+/* Every append goes to the front of an empty log. */
+static void check_steps(int wiped)
 {
     unused_device(4);
     paint(PAINT);
     for (size_t i = 0; i < sizeof steps / sizeof steps[0]; i++) {
         size_t before = next_item();
-        data_size = steps[i].size;
+        state.lengths[0] = 0;
+        data_size = allowed(steps[i].size);
         run(steps[i].job, wiped);
         if (listing)
-            printf("%s, %zu bytes, next item %zu%s\n", steps[i].name, steps[i].size, next_item(),
+            printf("%s, %zu bytes, next item %zu%s\n", steps[i].name, data_size, next_item(),
                    wiped ? ", wiped" : "");
         if (wiped)
             check_gone(&steps[i]);
@@ -147,4 +152,15 @@ void check_keys(int wiped)
     }
     if (state.chunk != CHUNKS || state.offset != 0)
         fail("the steps did not use up the store");
+}
+
+void check_keys(int wiped)
+{
+    for (size_t i = 0; i < SETS; i++) {
+        set = &sets[i];
+        if (listing)
+            printf("kind %u, tags of %u bytes, data of up to %u, logs of %u\n", set->kind,
+                   set->tag_length, (unsigned)set->data_limit, (unsigned)set->log_capacity);
+        check_steps(wiped);
+    }
 }
