@@ -1,4 +1,5 @@
-/* A sealed log from the plan of its card to the audit, with every call of pahyndoi.h. */
+/* Sealed logs from the plan of their card to the audit, with every call of pahyndoi.h: on a card
+   with a store of kind 1, and on a small card, whose store has a set of parameters of its own. */
 
 #include <stdio.h>
 #include <string.h>
@@ -8,10 +9,29 @@
 
 enum { PHASES = 2, CHUNKS = 2, RATCHET = 3 };
 
+/* The set of the small card. */
+enum { TAG_LENGTH = 16, DATA_LIMIT = 64, LOG_CAPACITY = 512 };
+
 static uint8_t store[PAHYNDOI_HEADER_SIZE + CHUNKS * PAHYNDOI_CHUNK_SIZE];
 static uint8_t auditor[sizeof store];
 static uint8_t logs[PHASES * PAHYNDOI_LOG_SIZE];
 static uint8_t seal[CHUNKS * RATCHET * PAHYNDOI_ENTRY_SIZE];
+
+static uint8_t small_store[PAHYNDOI_STORE_SIZE_OF(PAHYNDOI_OWN_SET_HEADER_SIZE, CHUNKS)];
+static uint8_t small_auditor[sizeof small_store];
+static uint8_t small_logs[PAHYNDOI_LOGS_SIZE_OF(LOG_CAPACITY, PHASES)];
+static uint8_t small_seal[PAHYNDOI_SEAL_SIZE_OF(TAG_LENGTH, CHUNKS, RATCHET)];
+
+/* The memories of a card, with the auditor's copy of its unused store, and the state. */
+struct card {
+    uint8_t *store, *auditor;
+    size_t store_size;
+    uint8_t *logs;
+    size_t logs_size;
+    uint8_t *seal;
+    size_t seal_size;
+    pahyndoi_state state;
+};
 
 static void print_bytes(const char *name, const uint8_t *bytes, size_t size)
 {
@@ -39,55 +59,78 @@ static void plan_card(void)
     print_answer("plan with 65,537", pahyndoi_least_ratchet(counts, 3, CHUNKS));
 }
 
-/* An unused store. The chunks of a real one are random bytes, known to device and auditor alone. */
-static void make_store(void)
+static void put_number(uint8_t bytes[4], uint32_t number)
 {
-    store[0] = 1;
-    memcpy(store + 1, "device 7", 8);
-    store[9] = PHASES;
-    store[10] = CHUNKS;
-    store[14] = RATCHET;
-    for (size_t i = PAHYNDOI_HEADER_SIZE; i < sizeof store; i++)
-        store[i] = (uint8_t)i;
+    for (size_t i = 0; i < 4; i++)
+        bytes[i] = (uint8_t)(number >> (8 * i));
+}
+
+/* The fields that both kinds of store have. */
+static void put_fields(uint8_t *header, uint8_t kind)
+{
+    header[0] = kind;
+    memcpy(header + 1, "device 7", 8);
+    header[9] = PHASES;
+    put_number(header + 10, CHUNKS);
+    put_number(header + 14, RATCHET);
+}
+
+/* The fields behind them in kind 6. */
+static void put_set(uint8_t *header, uint8_t tag_length, uint32_t data_limit, uint32_t log_capacity)
+{
+    header[18] = tag_length;
+    put_number(header + 19, data_limit);
+    put_number(header + 23, log_capacity);
+}
+
+/* Chunks, and the auditor's copy of the unused store. The chunks of a real store are random bytes,
+   known to device and auditor alone. */
+static void put_chunks(struct card *card, size_t header_size)
+{
+    for (size_t i = header_size; i < card->store_size; i++)
+        card->store[i] = (uint8_t)i;
+    memcpy(card->auditor, card->store, card->store_size);
 }
 
 /* The sealing calls, each in a function of its own, as wipe_stack.h asks. */
-static NEVER_INLINED uint64_t call_open(pahyndoi_state *state)
+static NEVER_INLINED uint64_t call_open(struct card *card)
 {
     const uint32_t lengths[PHASES] = {0, 0};
-    return pahyndoi_open(state, store, sizeof store, logs, sizeof logs, lengths, PHASES,
-                         seal, sizeof seal, 0);
+    return pahyndoi_open(&card->state, card->store, card->store_size, card->logs, card->logs_size,
+                         lengths, PHASES, card->seal, card->seal_size, 0);
 }
 
-static NEVER_INLINED uint64_t call_append(pahyndoi_state *state, uint8_t phase, const char *text)
+static NEVER_INLINED uint64_t call_append(struct card *card, uint8_t phase, const char *text)
 {
-    return pahyndoi_append(state, store, sizeof store, logs, sizeof logs, seal, sizeof seal,
-                           phase, (const uint8_t *)text, strlen(text));
+    return pahyndoi_append(&card->state, card->store, card->store_size, card->logs,
+                           card->logs_size, card->seal, card->seal_size, phase,
+                           (const uint8_t *)text, strlen(text));
 }
 
-static NEVER_INLINED uint64_t call_close(pahyndoi_state *state)
+static NEVER_INLINED uint64_t call_close(struct card *card)
 {
-    return pahyndoi_close(state, store, sizeof store, logs, sizeof logs, seal, sizeof seal);
+    return pahyndoi_close(&card->state, card->store, card->store_size, card->logs,
+                          card->logs_size, card->seal, card->seal_size);
 }
 
 /* And each followed by the wipe: the keys that the call used must be gone. */
-static uint64_t open_store(pahyndoi_state *state)
+static uint64_t open_store(struct card *card)
 {
-    uint64_t answer = call_open(state);
+    uint64_t answer = call_open(card);
     wipe_stack();
     return answer;
 }
 
-static uint64_t append(pahyndoi_state *state, uint8_t phase, const char *text)
+static uint64_t append(struct card *card, uint8_t phase, const char *text)
 {
-    uint64_t answer = call_append(state, phase, text);
+    uint64_t answer = call_append(card, phase, text);
     wipe_stack();
     return answer;
 }
 
-static uint64_t close_store(pahyndoi_state *state)
+static uint64_t close_store(struct card *card)
 {
-    uint64_t answer = call_close(state);
+    uint64_t answer = call_close(card);
     wipe_stack();
     return answer;
 }
@@ -95,34 +138,35 @@ static uint64_t close_store(pahyndoi_state *state)
 /* The lengths that the state holds, 4 bytes each. */
 static void put_lengths(uint8_t lengths[4 * PHASES], const pahyndoi_state *state)
 {
-    for (size_t i = 0; i < 4 * PHASES; i++)
-        lengths[i] = (uint8_t)(state->lengths[i / 4] >> (8 * (i % 4)));
+    for (size_t i = 0; i < PHASES; i++)
+        put_number(lengths + 4 * i, state->lengths[i]);
 }
 
 /* The audit of the memories as they stand. */
-static uint64_t audit(const pahyndoi_state *state)
+static uint64_t audit(const struct card *card)
 {
     uint8_t lengths[4 * PHASES];
-    put_lengths(lengths, state);
-    return pahyndoi_audit(store, sizeof store, auditor, sizeof auditor, logs, sizeof logs,
-                          lengths, sizeof lengths, seal, (size_t)state->seal_length);
+    put_lengths(lengths, &card->state);
+    return pahyndoi_audit(card->store, card->store_size, card->auditor, card->store_size,
+                          card->logs, card->logs_size, lengths, sizeof lengths, card->seal,
+                          (size_t)card->state.seal_length);
 }
 
 /* Which item sealed a byte of a phase's log, and the text that it sealed, if it is not refused. */
-static void look_up(const pahyndoi_state *state, uint8_t phase, uint32_t offset)
+static void look_up(const struct card *card, uint8_t phase, uint32_t offset)
 {
     uint8_t lengths[4 * PHASES];
     uint64_t item, data;
-    put_lengths(lengths, state);
-    item = pahyndoi_item_at(store, sizeof store, auditor, sizeof auditor, logs, sizeof logs,
-                            lengths, sizeof lengths, seal, (size_t)state->seal_length, phase,
-                            offset);
-    data = pahyndoi_data_at(store, sizeof store, auditor, sizeof auditor, logs, sizeof logs,
-                            lengths, sizeof lengths, seal, (size_t)state->seal_length, phase,
-                            offset);
+    put_lengths(lengths, &card->state);
+    item = pahyndoi_item_at(card->store, card->store_size, card->auditor, card->store_size,
+                            card->logs, card->logs_size, lengths, sizeof lengths, card->seal,
+                            (size_t)card->state.seal_length, phase, offset);
+    data = pahyndoi_data_at(card->store, card->store_size, card->auditor, card->store_size,
+                            card->logs, card->logs_size, lengths, sizeof lengths, card->seal,
+                            (size_t)card->state.seal_length, phase, offset);
     printf("byte %u of phase %u: refusal %u, number %u, \"%.*s\"\n", (unsigned)offset,
            (unsigned)phase, (unsigned)PAHYNDOI_REFUSAL(item), (unsigned)PAHYNDOI_NUMBER(item),
-           (int)PAHYNDOI_LENGTH(data), (const char *)logs + PAHYNDOI_PLACE(data));
+           (int)PAHYNDOI_LENGTH(data), (const char *)card->logs + PAHYNDOI_PLACE(data));
 }
 
 /* A tag of so many bytes, or by which number it is refused. */
@@ -151,31 +195,71 @@ static void hash_known(void)
     print_tag("hmac, 15 bytes", key, "Test With Truncation", PAHYNDOI_SHORTEST_TAG - 1);
 }
 
-int main(void)
+/* A store of kind 1. */
+static void use_card(void)
 {
-    pahyndoi_state state;
+    static struct card card = {.store = store, .auditor = auditor, .store_size = sizeof store,
+                               .logs = logs, .logs_size = sizeof logs,
+                               .seal = seal, .seal_size = sizeof seal};
+    put_fields(store, PAHYNDOI_COMMON_SET_KIND);
+    put_chunks(&card, PAHYNDOI_HEADER_SIZE);
 
-    hash_known();
-    plan_card();
-    make_store();
-    memcpy(auditor, store, sizeof store);
-
-    print_answer("open", open_store(&state));
-    print_answer("append", append(&state, 1, "door opened"));
-    print_answer("append", append(&state, 2, "fan at 40 %"));
-    print_answer("append", append(&state, 1, "door shut"));
-    print_answer("append", append(&state, 2, "fan off"));
-    print_answer("append to phase 3", append(&state, 3, "nowhere"));
-    print_answer("close", close_store(&state));
-    print_answer("audit", audit(&state));
+    print_answer("open", open_store(&card));
+    print_answer("append", append(&card, 1, "door opened"));
+    print_answer("append", append(&card, 2, "fan at 40 %"));
+    print_answer("append", append(&card, 1, "door shut"));
+    print_answer("append", append(&card, 2, "fan off"));
+    print_answer("append to phase 3", append(&card, 3, "nowhere"));
+    print_answer("close", close_store(&card));
+    print_answer("audit", audit(&card));
 
     /* "door shut" stands behind the 11 bytes of "door opened" and ends before byte 20. */
-    look_up(&state, 1, 10);
-    look_up(&state, 1, 11);
-    look_up(&state, 2, 17);
-    look_up(&state, 1, 20);
+    look_up(&card, 1, 10);
+    look_up(&card, 1, 11);
+    look_up(&card, 2, 17);
+    look_up(&card, 1, 20);
     logs[11] = 'D';
-    print_answer("audit of an altered log", audit(&state));
-    look_up(&state, 1, 0);
+    print_answer("audit of an altered log", audit(&card));
+    look_up(&card, 1, 0);
+}
+
+/* A store of kind 6, and memories sized by its set. Refused are a set with tags of 15 bytes, data a
+   byte longer than the limit, and the audit beside a store with another set. */
+static void use_small_card(void)
+{
+    static struct card card = {.store = small_store, .auditor = small_auditor,
+                               .store_size = sizeof small_store,
+                               .logs = small_logs, .logs_size = sizeof small_logs,
+                               .seal = small_seal, .seal_size = sizeof small_seal};
+    char line[DATA_LIMIT + 2] = "";
+    memset(line, '-', DATA_LIMIT + 1);
+    put_fields(small_store, PAHYNDOI_OWN_SET_KIND);
+    put_set(small_store, PAHYNDOI_SHORTEST_TAG - 1, DATA_LIMIT, LOG_CAPACITY);
+    print_answer("small card, open with tags of 15 bytes", open_store(&card));
+    put_set(small_store, TAG_LENGTH, DATA_LIMIT, LOG_CAPACITY);
+    put_chunks(&card, PAHYNDOI_OWN_SET_HEADER_SIZE);
+
+    print_answer("small card, open", open_store(&card));
+    print_answer("append of 65 bytes", append(&card, 1, line));
+    print_answer("append of 64 bytes", append(&card, 1, line + 1));
+    print_answer("append", append(&card, 2, "fan off"));
+    print_answer("close", close_store(&card));
+    print_bytes("second entry", small_seal + PAHYNDOI_ENTRY_SIZE_OF(TAG_LENGTH),
+                PAHYNDOI_ENTRY_SIZE_OF(TAG_LENGTH));
+    print_bytes("filler", small_seal + 2 * PAHYNDOI_ENTRY_SIZE_OF(TAG_LENGTH),
+                PAHYNDOI_FILLER_SIZE_OF(TAG_LENGTH));
+    print_answer("audit", audit(&card));
+    look_up(&card, 2, 6);
+
+    put_set(small_auditor, PAHYNDOI_LONGEST_TAG, DATA_LIMIT, LOG_CAPACITY);
+    print_answer("audit beside tags of 32 bytes", audit(&card));
+}
+
+int main(void)
+{
+    hash_known();
+    plan_card();
+    use_card();
+    use_small_card();
     return 0;
 }
