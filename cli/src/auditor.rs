@@ -15,7 +15,7 @@ pub struct Material<'a> {
     pub device_store: &'a [u8],
     /// The auditor's copy of the unused store.
     pub auditor_store: &'a [u8],
-    /// The log memory: 8,192 bytes a phase.
+    /// The log memory: the store's log capacity for each phase.
     pub logs: &'a [u8],
     /// The log lengths: 4 bytes a phase, little-endian.
     pub lengths: &'a [u8],

@@ -4,6 +4,9 @@
 //! item sealed a byte of it ([`item_at`], [`data_at`]), and the ratchet that a
 //! card needs ([`least_ratchet`]).
 //!
+//! How long tags, data and logs are, the key store says: [`Parameters`] has the
+//! sizes that follow.
+//!
 //! The README has an example, which runs as a test of this package.
 
 mod auditor;
@@ -11,6 +14,7 @@ mod ffi;
 mod hash;
 mod lookup;
 pub mod model;
+mod parameters;
 pub mod plain;
 mod planning;
 mod refusal;
@@ -23,6 +27,11 @@ pub use ffi::{
 };
 pub use hash::{DIGEST_LENGTH, LENGTH_LIMIT, LONGEST_TAG, SHORTEST_TAG, hmac_sha256, sha256};
 pub use lookup::{data_at, item_at};
+pub use parameters::{
+    CHUNK_LENGTH, COMMON_SET_KIND, HEADER_LENGTH, LARGEST_DATA_LIMIT, LARGEST_LOG_CAPACITY,
+    OWN_SET_HEADER_LENGTH, OWN_SET_KIND, Parameters, SMALLEST_DATA_LIMIT, SMALLEST_LOG_CAPACITY,
+    store_length,
+};
 pub use planning::least_ratchet;
 pub use refusal::Refusal;
 pub use sealer::{append, close, open};

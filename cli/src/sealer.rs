@@ -4,10 +4,12 @@ use crate::{Refusal, State, append_raw, close_raw, open_raw};
 
 /// The sealing state of a device whose logs and seal file have these lengths.
 ///
-/// `store` is the key store, `logs` the log memory of 8,192 bytes a phase,
-/// `lengths` one number for each phase, and `seal` the whole seal memory, of
-/// which `seal_length` bytes are in use. Nothing lent is written. The state
-/// stands at the first chunk that is not burned, offset 0.
+/// `store` is the key store, which names the parameters that hold for every
+/// call, `logs` the log memory, its log capacity for each phase, `lengths` one
+/// number for each phase, and `seal` the whole seal memory, of which
+/// `seal_length` bytes are in use. [`Parameters`](crate::Parameters) has the
+/// sizes. Nothing lent is written. The state stands at the first chunk that is
+/// not burned, offset 0.
 ///
 /// Refused with 2 to 6. Open only while no chunk is half used, as after
 /// [`close`]: the keys left of a half used chunk are gone with its state.
@@ -25,10 +27,10 @@ pub fn open(
 
 /// Seals the data as one entry of its phase and answers the item's number.
 ///
-/// The data, 1 to 512 bytes, go behind the phase's log, and one item of 50
-/// bytes goes behind the seal file. Where the item is the first of its chunk,
-/// the chunk is burned in the store. The state steps on to the next key; the
-/// key used can't be had from it any more.
+/// The data, 1 byte to the store's data limit, go behind the phase's log, and
+/// one item, 18 bytes and the tag, goes behind the seal file. Where the item is
+/// the first of its chunk, the chunk is burned in the store. The state steps on
+/// to the next key; the key used can't be had from it any more.
 ///
 /// Refused with 2, 3 and 6 to 11; then no byte of state, store, logs or seal
 /// memory changes.
@@ -43,8 +45,8 @@ pub fn append(
     unpack(append_raw(state, store, logs, seal, phase, data))
 }
 
-/// Uses up the keys left of a half used chunk with filler items of 41 bytes
-/// and answers how many: none at offset 0.
+/// Uses up the keys left of a half used chunk with filler items, each 9 bytes
+/// and the tag, and answers how many: none at offset 0.
 ///
 /// Close before the state is lost, as when the power goes: an audit refuses a
 /// burned chunk whose keys have not all sealed an item.
