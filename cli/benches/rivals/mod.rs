@@ -8,7 +8,9 @@ mod limit;
 #[expect(dead_code, reason = "its SHA-256 alone is for the hash's benchmark")]
 mod rival;
 
-use pahyndoi::model::{DATA_LIMIT, Hmac};
+use std::cell::RefCell;
+
+use pahyndoi::model::Hmac;
 use pahyndoi::plain;
 
 /// The columns, in the order of the contenders after ours.
@@ -16,8 +18,10 @@ pub const NAMES: [&str; 3] = ["portable C", "libcrypto", "plain Rust"];
 
 pub const HMACS: [Hmac; 3] = [portable_c, libcrypto, plain_rust];
 
-/// The longest message: that of an entry.
-const MESSAGE_LIMIT: usize = 18 + DATA_LIMIT;
+thread_local! {
+    /// Where a message is joined. It grows with the longest and then stays.
+    static MESSAGE: RefCell<Vec<u8>> = const { RefCell::new(Vec::new()) };
+}
 
 pub fn print_heading(calls: &str) {
     println!("Ratios: the rival's time / our time. 1.00 is level, above it ours is faster.");
@@ -41,13 +45,14 @@ fn plain_rust(key: &[u8], parts: &[&[u8]]) -> [u8; 32] {
     with_message(parts, |message| plain::hmac_sha256(key, message))
 }
 
-/// Joins the parts without asking for memory, which would take its time.
+/// Joins the parts without asking for memory, and without clearing any, which
+/// would take their time.
 fn with_message(parts: &[&[u8]], hmac: impl Fn(&[u8]) -> [u8; 32]) -> [u8; 32] {
-    let mut message = [0; MESSAGE_LIMIT];
-    let mut length = 0;
-    for part in parts {
-        message[length..length + part.len()].copy_from_slice(part);
-        length += part.len();
-    }
-    hmac(&message[..length])
+    MESSAGE.with_borrow_mut(|message| {
+        message.clear();
+        for part in parts {
+            message.extend_from_slice(part);
+        }
+        hmac(message)
+    })
 }
