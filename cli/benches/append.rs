@@ -2,6 +2,8 @@
 
 #[path = "rivals/mod.rs"]
 mod rivals;
+#[path = "sets/mod.rs"]
+mod sets;
 #[path = "store/mod.rs"]
 mod store;
 #[path = "timing/mod.rs"]
@@ -11,12 +13,22 @@ use std::cell::RefCell;
 use std::hint::black_box;
 use std::time::Duration;
 
-use pahyndoi::model::{self, ENTRY_LENGTH, Hmac, LOG_CAPACITY, Material};
+use pahyndoi::model::{self, Hmac, Material, Set};
 use pahyndoi::{State, append_raw};
+use sets::{LONG_ENTRIES, SHORT_TAGS};
 use store::unused_store;
 use timing::{Contender, minimum_times};
 
-const DATA_LENGTHS: [usize; 3] = [16, 64, 512];
+/// The set that the store names, none in kind 1, and the length of the data.
+const ROWS: [(Option<Set>, usize); 7] = [
+    (None, 16),
+    (None, 64),
+    (None, 512),
+    (Some(SHORT_TAGS), 16),
+    (Some(SHORT_TAGS), 64),
+    (Some(SHORT_TAGS), 512),
+    (Some(LONG_ENTRIES), 4096),
+];
 const ALL_ROUNDS: Duration = Duration::from_secs(4);
 const CHUNK_COUNT: u32 = 1024;
 const RATCHET: u32 = 256;
@@ -27,33 +39,37 @@ const COMPARED: u32 = RATCHET + 3;
 /// A device of one phase. Each append goes to the front of the log and of the
 /// seal memory, so that neither fills up.
 struct Device<State> {
+    own_set: Option<Set>,
     material: Material,
     state: State,
 }
 
 fn main() {
     rivals::print_heading("the append");
-    print!("{:>8}", "data");
+    print!("{:>8}{:>8}", "tag", "data");
     for name in rivals::NAMES {
         print!("{name:>12}");
     }
     println!();
-    for length in DATA_LENGTHS {
+    for (own_set, length) in ROWS {
         let data: Vec<u8> = (0..length).map(|index| (index * 167 + 13) as u8).collect();
+        let tag_length = own_set.unwrap_or(Set::COMMON).tag_length;
+        print!("{:>8}", format!("{tag_length} B"));
         print!("{:>8}", format!("{length} B"));
-        for ratio in measure(&data) {
+        for ratio in measure(own_set, &data) {
             print!("{ratio:>12.2}");
         }
         println!();
     }
 }
 
-fn measure(data: &[u8]) -> [f64; 3] {
+fn measure(own_set: Option<Set>, data: &[u8]) -> [f64; 3] {
     for hmac in rivals::HMACS {
-        compare(hmac, data);
+        compare(hmac, own_set, data);
     }
-    let ours = RefCell::new(Device::<State>::new());
-    let rivals = rivals::HMACS.map(|hmac| (hmac, RefCell::new(Device::<model::State>::new())));
+    let ours = RefCell::new(Device::<State>::new(own_set));
+    let rivals =
+        rivals::HMACS.map(|hmac| (hmac, RefCell::new(Device::<model::State>::new(own_set))));
     let appends = rivals
         .each_ref()
         .map(|(hmac, device)| || device.borrow_mut().append(*hmac, black_box(data)));
@@ -69,9 +85,9 @@ fn measure(data: &[u8]) -> [f64; 3] {
 }
 
 /// Fails where ours and the model's leave other bytes.
-fn compare(hmac: Hmac, data: &[u8]) {
-    let mut ours = Device::<State>::new();
-    let mut models = Device::<model::State>::new();
+fn compare(hmac: Hmac, own_set: Option<Set>, data: &[u8]) {
+    let mut ours = Device::<State>::new(own_set);
+    let mut models = Device::<model::State>::new(own_set);
     for number in 0..COMPARED {
         let answer = ours.append(data);
         assert_eq!(answer, u64::from(number));
@@ -81,12 +97,14 @@ fn compare(hmac: Hmac, data: &[u8]) {
 }
 
 impl<State: Default> Device<State> {
-    fn new() -> Self {
+    fn new(own_set: Option<Set>) -> Self {
+        let set = own_set.unwrap_or(Set::COMMON);
         Device {
+            own_set,
             material: Material {
-                store: unused_store(1, CHUNK_COUNT, RATCHET),
-                log_memory: vec![0; LOG_CAPACITY],
-                seal_memory: vec![0; ENTRY_LENGTH],
+                store: unused_store(1, CHUNK_COUNT, RATCHET, own_set),
+                log_memory: vec![0; set.log_capacity as usize],
+                seal_memory: vec![0; set.entry_length()],
             },
             state: State::default(),
         }
@@ -95,7 +113,7 @@ impl<State: Default> Device<State> {
     /// A new store once in 262,144 appends.
     fn renew_if(&mut self, spent: bool) {
         if spent {
-            *self = Device::new();
+            *self = Device::new(self.own_set);
         }
     }
 }

@@ -3,6 +3,8 @@
 
 #[path = "rivals/mod.rs"]
 mod rivals;
+#[path = "sets/mod.rs"]
+mod sets;
 #[path = "store/mod.rs"]
 mod store;
 #[path = "timing/mod.rs"]
@@ -12,28 +14,56 @@ use std::hint::black_box;
 use std::time::Duration;
 
 use pahyndoi::model::{
-    FILLER_LENGTH, Hmac, LOG_CAPACITY, Material, PHASE_LIMIT, Presented, State, append,
-    audit_packed, close,
+    Hmac, Material, PHASE_LIMIT, Presented, Set, State, append, audit_packed, close,
 };
 use pahyndoi::{audit_raw, data_at_raw, item_at_raw};
+use sets::{LONG_ENTRIES, SHORT_TAGS};
 use store::unused_store;
 use timing::{Contender, minimum_times};
 
-/// Chunks, N, and how long the rounds take: 1,000 items, 10,000, and the
-/// largest material that a header allows.
-const SIZES: [(u32, u32, Duration); 3] = [
-    (5, 200, Duration::from_secs(2)),
-    (50, 200, Duration::from_secs(3)),
-    (1024, 256, Duration::from_secs(24)),
+/// Materials and how long the rounds take: 1,000 items, 10,000, and the largest
+/// that a header of kind 1 allows.
+const SIZES: [(Shape, Duration); 3] = [
+    (Shape::common(5, 200), Duration::from_secs(2)),
+    (Shape::common(50, 200), Duration::from_secs(3)),
+    (Shape::common(1024, 256), Duration::from_secs(24)),
 ];
 const GROWTH_ROUNDS: Duration = Duration::from_secs(12);
 
-/// One item in so many is an entry of one byte, the others are fillers: with
-/// 65,536 entries the logs of the largest material are full.
+/// Materials of stores that name a set, with 1,000 items and 10,000; where
+/// entries are long, so many that the logs are full.
+const OWN_SETS: [(Shape, Duration); 3] = [
+    (
+        Shape::common(5, 200).with_set(SHORT_TAGS, 1),
+        Duration::from_secs(2),
+    ),
+    (
+        Shape::common(50, 200).with_set(SHORT_TAGS, 1),
+        Duration::from_secs(3),
+    ),
+    (
+        Shape::common(4, 128).with_set(LONG_ENTRIES, 4096),
+        Duration::from_secs(2),
+    ),
+];
+
+/// One item in so many is an entry, the others are fillers: with 65,536 entries
+/// of one byte the logs of the largest material are full.
 const ITEMS_FOR_AN_ENTRY: u32 = 4;
+
+/// What a controller is to leave: how much of it, the set that its store names,
+/// none in kind 1, and the length of an entry's data.
+#[derive(Clone, Copy)]
+struct Shape {
+    chunk_count: u32,
+    ratchet: u32,
+    own_set: Option<Set>,
+    data_length: usize,
+}
 
 /// What a controller left that closed each chunk after a quarter of its keys.
 struct Left {
+    shape: Shape,
     items: u32,
     unused_store: Vec<u8>,
     material: Material,
@@ -41,7 +71,7 @@ struct Left {
     last_entry: LastEntry,
 }
 
-/// The item number of the last entry, and its last byte.
+/// The item number of the last entry, and where its last byte is.
 #[derive(Clone, Copy, Default)]
 struct LastEntry {
     number: u32,
@@ -50,15 +80,17 @@ struct LastEntry {
 }
 
 fn main() {
-    let sizes = SIZES.map(|(chunk_count, ratchet, _)| Left::new(chunk_count, ratchet));
+    let sizes = SIZES.map(|(shape, _)| Left::new(shape));
+    let own_sets = OWN_SETS.map(|(shape, _)| Left::new(shape));
     rivals::print_heading("the audit");
-    println!("A quarter of the items are entries of one byte, the others fillers.");
-    print!("{:>8}", "items");
+    println!("A quarter of the items are entries with data of this length, the others fillers.");
+    print!("{:>8}{:>8}{:>8}", "tag", "data", "items");
     for name in rivals::NAMES {
         print!("{name:>12}");
     }
     println!();
-    for (left, (.., all_rounds)) in sizes.iter().zip(SIZES) {
+    let rows = sizes.iter().zip(SIZES).chain(own_sets.iter().zip(OWN_SETS));
+    for (left, (_, all_rounds)) in rows {
         print_ratios(left, all_rounds);
     }
     println!();
@@ -77,7 +109,9 @@ fn print_ratios(left: &Left, all_rounds: Duration) {
         all_rounds,
         &[&|| left.audit(), portable_c, libcrypto, plain_rust],
     );
-    print!("{:>8}", left.items);
+    let (tag_length, data_length) = (left.shape.set().tag_length, left.shape.data_length);
+    print!("{:>8}", format!("{tag_length} B"));
+    print!("{:>8}{:>8}", format!("{data_length} B"), left.items);
     for time in times {
         print!("{:>12.2}", time / ours);
     }
@@ -105,9 +139,9 @@ fn print_growth(sizes: &[Left; 3]) {
 fn print_lookups(sizes: &[Left; 3]) {
     println!("The audit's time as a multiple of that to look up the last entry's last byte.");
     println!("{:>8}{:>12}{:>12}", "items", "item_at", "data_at");
-    for (left, (.., all_rounds)) in sizes.iter().zip(SIZES) {
+    for (left, (_, all_rounds)) in sizes.iter().zip(SIZES) {
         assert_eq!(left.item_at(), left.last_entry.number.into());
-        assert_eq!(left.data_at(), left.last_byte());
+        assert_eq!(left.data_at(), left.last_data());
         let calls: [Contender<u64>; 3] = [&|| left.audit(), &|| left.item_at(), &|| left.data_at()];
         let [audit, item_at, data_at] = minimum_times(all_rounds / 2, &calls);
         let ratios = (audit / item_at, audit / data_at);
@@ -115,25 +149,60 @@ fn print_lookups(sizes: &[Left; 3]) {
     }
 }
 
+impl Shape {
+    /// Of kind 1, with data of one byte.
+    const fn common(chunk_count: u32, ratchet: u32) -> Shape {
+        Shape {
+            chunk_count,
+            ratchet,
+            own_set: None,
+            data_length: 1,
+        }
+    }
+
+    const fn with_set(self, set: Set, data_length: usize) -> Shape {
+        Shape {
+            own_set: Some(set),
+            data_length,
+            ..self
+        }
+    }
+
+    fn set(&self) -> Set {
+        self.own_set.unwrap_or(Set::COMMON)
+    }
+
+    fn unused_store(&self) -> Vec<u8> {
+        unused_store(
+            PHASE_LIMIT as u8,
+            self.chunk_count,
+            self.ratchet,
+            self.own_set,
+        )
+    }
+}
+
 impl Left {
-    fn new(chunk_count: u32, ratchet: u32) -> Left {
-        let store = unused_store(PHASE_LIMIT as u8, chunk_count, ratchet);
-        let items = (chunk_count * ratchet) as usize;
-        let entries = items / ITEMS_FOR_AN_ENTRY as usize;
+    fn new(shape: Shape) -> Left {
+        let set = shape.set();
+        let items = shape.chunk_count * shape.ratchet;
+        let entries = (items / ITEMS_FOR_AN_ENTRY) as usize;
+        // An entry is 9 bytes longer than a filler.
+        let seal_length = set.filler_length() * items as usize + 9 * entries;
         let mut left = Left {
-            items: chunk_count * ratchet,
-            unused_store: store.clone(),
+            shape,
+            items,
+            unused_store: shape.unused_store(),
             material: Material {
-                store,
-                log_memory: vec![0; LOG_CAPACITY * PHASE_LIMIT],
-                // An entry is 9 bytes longer than a filler.
-                seal_memory: vec![0; FILLER_LENGTH * items + 9 * entries],
+                store: shape.unused_store(),
+                log_memory: vec![0; set.log_capacity as usize * PHASE_LIMIT],
+                seal_memory: vec![0; seal_length],
             },
             state: State::default(),
             last_entry: LastEntry::default(),
         };
-        for _ in 0..chunk_count {
-            left.use_chunk(ratchet / ITEMS_FOR_AN_ENTRY);
+        for _ in 0..shape.chunk_count {
+            left.use_chunk(shape.ratchet / ITEMS_FOR_AN_ENTRY);
         }
         left
     }
@@ -142,6 +211,7 @@ impl Left {
     fn use_chunk(&mut self, entries: u32) {
         let [hmac, ..] = rivals::HMACS;
         let Left {
+            shape,
             material,
             state,
             last_entry,
@@ -149,13 +219,13 @@ impl Left {
         } = self;
         for number in 0..entries {
             let phase = (number % PHASE_LIMIT as u32) as u8 + 1;
-            let offset = state.log_lengths[usize::from(phase) - 1];
-            let answer = append(hmac, material, state, phase, &[number as u8]);
+            let data = vec![number as u8; shape.data_length];
+            let answer = append(hmac, material, state, phase, &data);
             assert_eq!(answer.refusal, 0);
             *last_entry = LastEntry {
                 number: answer.number,
                 phase,
-                offset,
+                offset: state.log_lengths[usize::from(phase) - 1] - 1,
             };
         }
         assert_eq!(close(hmac, material, state).refusal, 0);
@@ -200,11 +270,13 @@ impl Left {
         )
     }
 
-    /// What `data_at` answers: the place of the last entry's one byte.
-    fn last_byte(&self) -> u64 {
+    /// What `data_at` answers: the place of the last entry's data, and their
+    /// length.
+    fn last_data(&self) -> u64 {
         let LastEntry { phase, offset, .. } = self.last_entry;
-        let log = LOG_CAPACITY as u64 * u64::from(phase - 1);
-        ((log + u64::from(offset)) << 32) + 1
+        let length = self.shape.data_length as u64;
+        let log = u64::from(self.shape.set().log_capacity) * u64::from(phase - 1);
+        ((log + u64::from(offset) + 1 - length) << 32) + length
     }
 
     fn audit_by_model(&self, hmac: Hmac) -> u64 {

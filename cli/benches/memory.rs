@@ -67,7 +67,7 @@ fn print_heading() {
 
 /// The chunks of two equal stores, so many bytes a call.
 fn print_comparison(length: usize) {
-    let first = unused_store(PHASE_LIMIT as u8, CHUNK_COUNT, RATCHET);
+    let first = unused_store(PHASE_LIMIT as u8, CHUNK_COUNT, RATCHET, None);
     let second = first.clone();
     let memcmp = Memcmp::new();
     print_ratios(
@@ -98,7 +98,7 @@ fn print_zero_test(length: usize) {
 
 /// Chunks that are in use: the others stop at their first byte.
 fn print_nonzero_test() {
-    let store = unused_store(PHASE_LIMIT as u8, CHUNK_COUNT, RATCHET);
+    let store = unused_store(PHASE_LIMIT as u8, CHUNK_COUNT, RATCHET, None);
     let memcmp = Memcmp::new();
     print_ratios(
         "not zero",
@@ -198,7 +198,7 @@ fn print_times<Answer>(call: &str, contenders: &[Contender<'_, Answer>; 2]) {
 
 /// A device with so many chunks burned at the front, all memory empty.
 fn device(burned: u32) -> Material {
-    let mut store = unused_store(PHASE_LIMIT as u8, CHUNK_COUNT, RATCHET);
+    let mut store = unused_store(PHASE_LIMIT as u8, CHUNK_COUNT, RATCHET, None);
     store[HEADER_LENGTH..][..KEY_LENGTH * burned as usize].fill(0);
     Material {
         store,
