@@ -4,9 +4,9 @@
 use pahyndoi::{Material, Rejected};
 
 use super::coverage::Coverage;
-use super::item::{DATA_LIMIT, Item};
+use super::item::Item;
 use super::reading::Reading;
-use super::store::{Header, LOG_CAPACITY, burned_at_front, chunks, is_burned};
+use super::store::{Header, burned_at_front, chunks, is_burned};
 use super::text::{counted, grouped};
 
 /// None where there is nothing to add to the rule's own words.
@@ -17,7 +17,7 @@ pub fn detail(reading: &Reading, rejected: &Rejected) -> Option<String> {
         Err(wrong) => return Some(format!("The device's store {wrong}.")),
     };
     match rejected.refusal.0 {
-        3 => Some(logs_detail(header, material.logs)),
+        3 => Some(logs_detail(header, reading)),
         4 => stray_burned_chunk(material.device_store),
         5 => Some(lengths_detail(header, reading)),
         12 => auditor_detail(reading),
@@ -45,18 +45,18 @@ fn phases_sentence(phases: u8) -> String {
     format!("Phases are 1 to {phases}.")
 }
 
-fn logs_detail(header: &Header, logs: &[u8]) -> String {
-    size_sentence(logs, LOG_CAPACITY, header)
+fn logs_detail(header: &Header, reading: &Reading) -> String {
+    let needed = reading.set.log_memory(header.phases);
+    size_sentence(reading.material.logs, needed, header)
 }
 
-/// Of bytes that ought to be so many a phase.
-fn size_sentence(bytes: &[u8], of_a_phase: usize, header: &Header) -> String {
-    let phases = usize::from(header.phases);
+/// Of bytes that ought to be so many for all phases.
+fn size_sentence(bytes: &[u8], needed: usize, header: &Header) -> String {
     format!(
         "It has {}, not the {} of {}.",
         counted(bytes.len(), "byte"),
-        grouped((of_a_phase * phases) as u64),
-        counted(phases, "phase")
+        grouped(needed as u64),
+        counted(usize::from(header.phases), "phase")
     )
 }
 
@@ -71,12 +71,13 @@ fn stray_burned_chunk(store: &[u8]) -> Option<String> {
 
 fn lengths_detail(header: &Header, reading: &Reading) -> String {
     let bytes = reading.material.lengths;
-    if bytes.len() != 4 * usize::from(header.phases) {
-        return size_sentence(bytes, 4, header);
+    let needed = 4 * usize::from(header.phases);
+    if bytes.len() != needed {
+        return size_sentence(bytes, needed, header);
     }
     let lengths = reading.lengths.iter().enumerate();
     let over: Vec<String> = lengths
-        .filter(|(_, length)| **length as usize > LOG_CAPACITY)
+        .filter(|(_, length)| **length > reading.set.log_capacity)
         .map(|(index, length)| format!("phase {} has {}", index + 1, grouped((*length).into())))
         .collect();
     format!("Too long: {}.", over.join(", "))
@@ -170,8 +171,9 @@ fn area_sentence(header: &Header, reading: &Reading, item: &Item) -> Option<Stri
     if !(1..=phases).contains(&area.phase) {
         return Some(phases_sentence(phases));
     }
-    let Some(bytes) = area.bytes() else {
-        return Some(format!("Data lengths are 1 to {DATA_LIMIT}."));
+    let Some(bytes) = area.bytes(reading.set) else {
+        let limit = grouped(reading.set.data_limit.into());
+        return Some(format!("Data lengths are 1 to {limit}."));
     };
     let index = usize::from(area.phase - 1);
     let length = *reading.lengths.get(index)?;
@@ -184,7 +186,8 @@ fn area_sentence(header: &Header, reading: &Reading, item: &Item) -> Option<Stri
 
 /// How far the item's phase is covered up to the item, and what waits.
 fn waiting_sentence(reading: &Reading, item: &Item) -> Option<String> {
-    let coverage = Coverage::of(&reading.lengths, &reading.items[..=item.number]);
+    let so_far = &reading.items[..=item.number];
+    let coverage = Coverage::of(reading.set, &reading.lengths, so_far);
     let index = usize::from(item.area?.phase).checked_sub(1)?;
     let log = coverage.logs.get(index)?;
     let covered = log.covered();
@@ -200,11 +203,11 @@ fn waiting_sentence(reading: &Reading, item: &Item) -> Option<String> {
 /// The first earlier item of the phase that shares a byte.
 fn sharing_sentence(reading: &Reading, item: &Item) -> Option<String> {
     let area = item.area?;
-    let bytes = area.bytes()?;
+    let bytes = area.bytes(reading.set)?;
     let mut earlier = reading.items[..item.number].iter();
     let other = earlier.find(|earlier| {
         let theirs = earlier.area.filter(|other| other.phase == area.phase);
-        let theirs = theirs.and_then(|other| other.bytes());
+        let theirs = theirs.and_then(|other| other.bytes(reading.set));
         theirs.is_some_and(|theirs| theirs.start < bytes.end && bytes.start < theirs.end)
     })?;
     let theirs = other.area?;
@@ -223,7 +226,7 @@ fn missing_detail(header: &Header, reading: &Reading) -> String {
 }
 
 fn gap_detail(reading: &Reading) -> Option<String> {
-    let coverage = Coverage::of(&reading.lengths, &reading.items);
+    let coverage = Coverage::of(reading.set, &reading.lengths, &reading.items);
     let mut logs = coverage.logs.iter();
     let log = logs.find(|log| log.covered() < log.bytes.len())?;
     Some(format!(

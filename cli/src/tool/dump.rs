@@ -8,6 +8,7 @@ use super::arguments::Syntax;
 use super::failure::Failure;
 use super::files;
 use super::item::{Item, items};
+use super::set::Set;
 use super::text::{counted, hexadecimal, wrapped};
 
 const SYNTAX: Syntax = Syntax {
@@ -32,7 +33,7 @@ pub fn run(arguments: &[OsString], out: &mut dyn Write) -> Result<Status, Failur
 fn table(seal_file: &[u8], out: &mut dyn Write) -> Result<Status, Failure> {
     let mut count = 0;
     writeln!(out, "{HEADING}")?;
-    for item in items(seal_file) {
+    for item in items(Set::COMMON, seal_file) {
         match item {
             Ok(item) => writeln!(out, "{}", row(&item))?,
             Err(damage) => {
@@ -88,7 +89,7 @@ mod tests {
             }),
             chunk: u32::MAX,
             ratchet: u32::MAX,
-            tag: [0xff; 32],
+            tag: vec![0xff; 32],
         };
         assert_eq!(row(&item).len(), 80);
     }

@@ -22,6 +22,7 @@ mod picture;
 mod plan;
 mod reading;
 mod refused;
+mod set;
 mod store;
 mod text;
 mod verdict;

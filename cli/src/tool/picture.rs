@@ -23,7 +23,7 @@ on a part of it, * bytes that items share, ! the refused item.
 
 /// Draws all logs, and tells what could not be drawn.
 pub fn draw(reading: &Reading, refused: Option<u32>) -> String {
-    let coverage = Coverage::of(&reading.lengths, &reading.items);
+    let coverage = Coverage::of(reading.set, &reading.lengths, &reading.items);
     let mut text = LEGEND.to_string();
     if coverage.logs.is_empty() {
         text += "Nothing can be drawn: no log has a length.\n";

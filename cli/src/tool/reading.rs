@@ -3,6 +3,7 @@
 use pahyndoi::Material;
 
 use super::item::{Damage, Item, items, number_at};
+use super::set::Set;
 use super::store::Header;
 
 pub struct Reading<'a> {
@@ -10,6 +11,8 @@ pub struct Reading<'a> {
     /// The stores' headers, or what is wrong with a store.
     pub device: Result<Header, String>,
     pub auditor: Result<Header, String>,
+    /// By which items and logs are read.
+    pub set: Set,
     /// As many as there are bytes for.
     pub lengths: Vec<u32>,
     /// Those before the damage, else all.
@@ -24,11 +27,12 @@ impl Reading<'_> {
             material,
             device: Header::read(material.device_store),
             auditor: Header::read(material.auditor_store),
+            set: Set::COMMON,
             lengths: lengths.map(|four| number_at(four, 0)).collect(),
             items: Vec::new(),
             damage: None,
         };
-        for item in items(material.seal_file) {
+        for item in items(reading.set, material.seal_file) {
             match item {
                 Ok(item) => reading.items.push(item),
                 Err(damage) => reading.damage = Some(damage),

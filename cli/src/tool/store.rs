@@ -14,9 +14,6 @@ pub const PHASES: RangeInclusive<u32> = 1..=8;
 pub const CHUNKS: RangeInclusive<u32> = 1..=1024;
 pub const RATCHET: RangeInclusive<u32> = 1..=256;
 
-/// The bytes of one phase's log in the log memory.
-pub const LOG_CAPACITY: usize = 8192;
-
 #[derive(Clone, Copy, Debug, PartialEq, Eq)]
 pub struct Header {
     pub id: [u8; 8],

@@ -2,7 +2,7 @@
 
 use super::super::evidence::Evidence;
 use super::super::item::{Item, items};
-use super::super::store::LOG_CAPACITY;
+use super::junction::SET;
 
 /// The item of 07:00 on the side road.
 pub const TARGET: usize = 22;
@@ -58,13 +58,13 @@ pub const ACTS: [Act; 9] = [
 
 /// The item of this number, which the evening's seal file has.
 fn item(evidence: &Evidence, number: usize) -> Option<Item> {
-    items(&evidence.seal).flatten().nth(number)
+    items(SET, &evidence.seal).flatten().nth(number)
 }
 
 fn alter_log(evening: &mut Evidence, _: &Evidence) {
     let area = item(evening, TARGET).and_then(|item| item.area);
     if let Some(area) = area {
-        let log = LOG_CAPACITY * usize::from(area.phase - 1);
+        let log = SET.log_start(area.phase);
         evening.logs[log + area.offset as usize + TENS_IN_LINE] = b'1';
     }
 }
@@ -99,7 +99,7 @@ fn cut_bytes(evening: &mut Evidence, _: &Evidence) {
 }
 
 fn cut_item(evening: &mut Evidence, _: &Evidence) {
-    if let Some(last) = items(&evening.seal).flatten().last() {
+    if let Some(last) = items(SET, &evening.seal).flatten().last() {
         evening.seal.truncate(last.place.start);
     }
 }

@@ -3,7 +3,9 @@
 use pahyndoi::{Refusal, State, append, close, open, sha256};
 
 use super::super::evidence::Evidence;
-use super::super::store::{Header, LOG_CAPACITY, burned_at_front};
+use super::super::item::entry_length;
+use super::super::set::Set;
+use super::super::store::{Header, burned_at_front};
 
 /// What is counted in each phase, from phase 1 on.
 const PHASES: [&str; 3] = ["main road", "side road", "on foot"];
@@ -15,11 +17,10 @@ pub const HEADER: Header = Header {
     ratchet: 16,
 };
 
+pub const SET: Set = Set::COMMON;
+
 /// The demo's keys are hashes of this and the chunk's number.
 pub const SEED: &str = "Pahyndoi's demo, not random";
-
-/// Enough for all items of the store, were they all entries.
-const SEAL_MEMORY: usize = 50 * 8 * 16;
 
 /// The main road's counts in the hours of the day.
 const HOURS: [u32; 24] = [
@@ -42,8 +43,8 @@ impl Junction {
         Ok(Junction {
             auditor_store: store.clone(),
             store,
-            logs: vec![0; LOG_CAPACITY * PHASES.len()],
-            seal: vec![0; SEAL_MEMORY],
+            logs: vec![0; SET.log_memory(HEADER.phases)],
+            seal: vec![0; seal_memory()],
             state: State::default(),
         })
     }
@@ -93,6 +94,11 @@ impl Junction {
             seal: self.seal[..self.state.seal_length as usize].to_vec(),
         }
     }
+}
+
+/// Enough for all items of the store, were they all entries.
+fn seal_memory() -> usize {
+    entry_length(SET) * HEADER.keys_of(HEADER.chunks as usize)
 }
 
 fn unused_store() -> Result<Vec<u8>, Refusal> {

@@ -12,7 +12,7 @@ use std::path::Path;
 use pahyndoi::Refusal;
 
 use self::intruder::{ACTS, TARGET, drop_item};
-use self::junction::{HEADER, Junction, SEED};
+use self::junction::{HEADER, Junction, SEED, SET};
 use super::Status;
 use super::arguments::Syntax;
 use super::coverage::Coverage;
@@ -20,7 +20,6 @@ use super::evidence::Evidence;
 use super::failure::Failure;
 use super::picture;
 use super::reading::Reading;
-use super::store::LOG_CAPACITY;
 use super::text::{counted, hexadecimal, shown, wrapped};
 use super::verdict::Verdict;
 
@@ -107,7 +106,7 @@ fn half_day(
 /// The side road's log from 06:00 to 08:00.
 fn log_lines(evening: &Evidence, out: &mut dyn Write) -> Result<(), Failure> {
     writeln!(out, "\n   From the log of phase 2:\n")?;
-    let log = String::from_utf8_lossy(&evening.logs[LOG_CAPACITY..]);
+    let log = String::from_utf8_lossy(&evening.logs[SET.log_start(2)..]);
     for line in log.lines().skip(6).take(3) {
         writeln!(out, "      {line}")?;
     }
@@ -149,7 +148,7 @@ fn gap(evening: &Evidence, noon: &Evidence, out: &mut dyn Write) -> Result<(), F
     let mut altered = evening.clone();
     drop_item(&mut altered, noon);
     let reading = Reading::of(altered.material());
-    let coverage = Coverage::of(&reading.lengths, &reading.items);
+    let coverage = Coverage::of(reading.set, &reading.lengths, &reading.items);
     out.write_all(picture::draw_log(&coverage.logs[1], None).as_bytes())?;
     Ok(())
 }

@@ -1,6 +1,7 @@
 //! The counts that a card is planned for, and the chunks that they take.
 
-use super::super::store::{CHUNKS, LOG_CAPACITY, PHASES, RATCHET};
+use super::super::set::Set;
+use super::super::store::{CHUNKS, PHASES, RATCHET};
 use super::super::text::{counted, grouped};
 
 const MOST_COUNTS: usize = 64;
@@ -47,7 +48,7 @@ impl Plan {
     /// Why chunks alone do not decide, if the logs can't take the entries: each
     /// has a byte or more.
     pub fn beyond_the_logs(&self) -> Option<String> {
-        let room = u64::from(*PHASES.end()) * LOG_CAPACITY as u64;
+        let room = u64::from(*PHASES.end()) * u64::from(Set::COMMON.log_capacity);
         let entries: u64 = self.counts.iter().copied().map(u64::from).sum();
         (entries > room).then(|| {
             format!(
