@@ -46,7 +46,7 @@ fn phases_sentence(phases: u8) -> String {
 }
 
 fn logs_detail(header: &Header, reading: &Reading) -> String {
-    let needed = reading.set.log_memory(header.phases);
+    let needed = header.log_memory_length();
     size_sentence(reading.material.logs, needed, header)
 }
 
@@ -249,6 +249,7 @@ mod tests {
         phases: 2,
         chunks: 1,
         ratchet: 32,
+        own_set: None,
     };
 
     /// What is said of an item among entries of these areas, in logs of 100

@@ -52,6 +52,7 @@ fn header(arguments: &Arguments) -> Result<Header, Failure> {
         phases: arguments.required_number("--phases", PHASES)? as u8,
         chunks: arguments.required_number("--chunks", CHUNKS)?,
         ratchet: arguments.required_number("--ratchet", RATCHET)?,
+        own_set: None,
     })
 }
 

@@ -11,7 +11,8 @@ pub struct Reading<'a> {
     /// The stores' headers, or what is wrong with a store.
     pub device: Result<Header, String>,
     pub auditor: Result<Header, String>,
-    /// By which items and logs are read.
+    /// By which items and logs are read: the device's, else the auditor's, else
+    /// that of kind 1.
     pub set: Set,
     /// As many as there are bytes for.
     pub lengths: Vec<u32>,
@@ -23,16 +24,20 @@ pub struct Reading<'a> {
 impl Reading<'_> {
     pub fn of(material: Material<'_>) -> Reading<'_> {
         let lengths = material.lengths.chunks_exact(4);
+        let device = Header::read(material.device_store);
+        let auditor = Header::read(material.auditor_store);
+        let known = device.as_ref().or(auditor.as_ref());
+        let set = known.map_or(Set::COMMON, Header::set);
         let mut reading = Reading {
             material,
-            device: Header::read(material.device_store),
-            auditor: Header::read(material.auditor_store),
-            set: Set::COMMON,
+            device,
+            auditor,
+            set,
             lengths: lengths.map(|four| number_at(four, 0)).collect(),
             items: Vec::new(),
             damage: None,
         };
-        for item in items(reading.set, material.seal_file) {
+        for item in items(set, material.seal_file) {
             match item {
                 Ok(item) => reading.items.push(item),
                 Err(damage) => reading.damage = Some(damage),
@@ -77,6 +82,37 @@ pub mod tests {
     #[test]
     fn odd_lengths_give_the_numbers_they_can() {
         assert_eq!(reading(&[1, 0, 0, 0, 9, 9], &[]).lengths, [1]);
+    }
+
+    /// The device's set counts; a store that is malformed has none.
+    #[test]
+    fn set_is_the_devices_else_the_auditors() {
+        let store = |set: Set| {
+            let mut bytes = vec![6, 1, 2, 3, 4, 5, 6, 7, 8, 1, 1, 0, 0, 0, 1, 0, 0, 0];
+            bytes.extend(set.to_bytes());
+            bytes.resize(bytes.len() + 32, 7);
+            bytes
+        };
+        let [one, other] = [16, 17].map(|tag_length| Set {
+            tag_length,
+            ..Set::COMMON
+        });
+        let (device, auditor) = (store(one), store(other));
+        for (device_store, auditor_store, set) in [
+            (&device[..], &auditor[..], one),
+            (&device, &[], one),
+            (&device[1..], &auditor, other),
+            (&[], &auditor[1..], Set::COMMON),
+        ] {
+            let material = Material {
+                device_store,
+                auditor_store,
+                logs: &[],
+                lengths: &[],
+                seal_file: &[],
+            };
+            assert_eq!(Reading::of(material).set, set);
+        }
     }
 
     #[test]

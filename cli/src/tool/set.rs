@@ -1,5 +1,16 @@
 //! The parameters that a store sets.
 
+use std::ops::RangeInclusive;
+
+use super::item::number_at;
+
+pub const TAG_LENGTHS: RangeInclusive<u32> = 16..=32;
+pub const DATA_LIMITS: RangeInclusive<u32> = 1..=4096;
+pub const LOG_CAPACITIES: RangeInclusive<u32> = 512..=65_536;
+
+/// The bytes of a set in a header.
+pub const SET_LENGTH: usize = 9;
+
 #[derive(Clone, Copy, Debug, PartialEq, Eq)]
 pub struct Set {
     /// The bytes of an item's tag.
@@ -18,13 +29,29 @@ impl Set {
         log_capacity: 8192,
     };
 
-    /// Where the log of a phase, 1 or more, begins in the log memory.
-    pub fn log_start(&self, phase: u8) -> usize {
-        self.log_memory(phase - 1)
+    /// The set in these 9 bytes, whether in range or not.
+    pub fn read(bytes: &[u8]) -> Set {
+        Set {
+            tag_length: bytes[0],
+            data_limit: number_at(bytes, 1),
+            log_capacity: number_at(bytes, 5),
+        }
     }
 
-    /// The bytes of a log memory of this many phases.
-    pub fn log_memory(&self, phases: u8) -> usize {
-        self.log_capacity as usize * usize::from(phases)
+    pub fn to_bytes(self) -> Vec<u8> {
+        let mut bytes = vec![self.tag_length];
+        bytes.extend(self.data_limit.to_le_bytes());
+        bytes.extend(self.log_capacity.to_le_bytes());
+        bytes
+    }
+
+    /// Whether a log has room for the longest data.
+    pub fn log_takes_data(&self) -> bool {
+        self.log_capacity >= self.data_limit
+    }
+
+    /// Where the log of a phase, 1 or more, begins in the log memory.
+    pub fn log_start(&self, phase: u8) -> usize {
+        self.log_capacity as usize * (usize::from(phase) - 1)
     }
 }

@@ -15,9 +15,10 @@ pub const HEADER: Header = Header {
     phases: PHASES.len() as u8,
     chunks: 8,
     ratchet: 16,
+    own_set: None,
 };
 
-pub const SET: Set = Set::COMMON;
+pub const SET: Set = HEADER.set();
 
 /// The demo's keys are hashes of this and the chunk's number.
 pub const SEED: &str = "Pahyndoi's demo, not random";
@@ -43,7 +44,7 @@ impl Junction {
         Ok(Junction {
             auditor_store: store.clone(),
             store,
-            logs: vec![0; SET.log_memory(HEADER.phases)],
+            logs: vec![0; HEADER.log_memory_length()],
             seal: vec![0; seal_memory()],
             state: State::default(),
         })
