@@ -11,15 +11,15 @@ pub struct Refusal(pub u32);
 /// `docs/FORMAT.md`, 9.
 const MEANINGS: [&str; 26] = [
     "a message or a key handed to the hash has more than 1,048,576 bytes",
-    "the store lacks a whole header of kind 1, has phases, chunk count or ratchet out of \
-     range, or is not as long as its header says",
-    "the log memory is not 8,192 bytes for each phase",
+    "the store lacks a whole header of kind 1 or 6, has phases, chunk count, ratchet or set \
+     out of range, or is not as long as its header says",
+    "the log memory is not the log capacity times the phases",
     "a chunk is burned although an earlier one is not",
-    "the lengths are not one for each phase, or one is above 8,192",
+    "the lengths are not one for each phase, or one is above the log capacity",
     "open is given a seal length beyond the seal memory, or append or close a state that does \
      not fit",
     "the phase is not one of the store's",
-    "the data are empty or longer than 512 bytes",
+    "the data are empty or longer than the data limit",
     "the phase's log has no room for the data",
     "the seal memory has no room for the items to be written",
     "the keys of all chunks are spent",
@@ -29,8 +29,8 @@ const MEANINGS: [&str; 26] = [
     "the item is no entry and no filler, or the seal file ends before the item does",
     "the item's number is not below P times N (P burned chunks, N keys from each)",
     "the item has another chunk number or ratchet offset than its number gives",
-    "the entry names no phase of the store, has a data length outside 1 to 512, or reaches \
-     past its phase's length",
+    "the entry names no phase of the store, has a data length outside 1 to the data limit, or \
+     reaches past its phase's length",
     "the entry's area overlaps that of an earlier entry of its phase",
     "after this entry more than 16 entries of its phase wait",
     "the item's tag is not the one that its key gives for its message",
@@ -84,7 +84,7 @@ mod tests {
     fn display_names_rule_and_meaning() {
         assert_eq!(
             Refusal(3).to_string(),
-            "refused by rule 3: the log memory is not 8,192 bytes for each phase"
+            "refused by rule 3: the log memory is not the log capacity times the phases"
         );
     }
 }

@@ -17,7 +17,7 @@ pub fn detail(reading: &Reading, rejected: &Rejected) -> Option<String> {
         Err(wrong) => return Some(format!("The device's store {wrong}.")),
     };
     match rejected.refusal.0 {
-        3 => Some(logs_detail(header, reading)),
+        3 => Some(logs_detail(header, material.logs)),
         4 => stray_burned_chunk(material.device_store),
         5 => Some(lengths_detail(header, reading)),
         12 => auditor_detail(reading),
@@ -45,15 +45,20 @@ fn phases_sentence(phases: u8) -> String {
     format!("Phases are 1 to {phases}.")
 }
 
-fn logs_detail(header: &Header, reading: &Reading) -> String {
-    let needed = header.log_memory_length();
-    size_sentence(reading.material.logs, needed, header)
+fn logs_detail(header: &Header, logs: &[u8]) -> String {
+    let size = size_words(logs, header.log_memory_length(), header);
+    format!("{size}; {}.", capacity_words(header))
+}
+
+fn capacity_words(header: &Header) -> String {
+    let capacity = grouped(header.set().log_capacity.into());
+    format!("the log capacity is {capacity}")
 }
 
 /// Of bytes that ought to be so many for all phases.
-fn size_sentence(bytes: &[u8], needed: usize, header: &Header) -> String {
+fn size_words(bytes: &[u8], needed: usize, header: &Header) -> String {
     format!(
-        "It has {}, not the {} of {}.",
+        "It has {}, not the {} of {}",
         counted(bytes.len(), "byte"),
         grouped(needed as u64),
         counted(usize::from(header.phases), "phase")
@@ -73,14 +78,14 @@ fn lengths_detail(header: &Header, reading: &Reading) -> String {
     let bytes = reading.material.lengths;
     let needed = 4 * usize::from(header.phases);
     if bytes.len() != needed {
-        return size_sentence(bytes, needed, header);
+        return format!("{}.", size_words(bytes, needed, header));
     }
     let lengths = reading.lengths.iter().enumerate();
     let over: Vec<String> = lengths
-        .filter(|(_, length)| **length > reading.set.log_capacity)
+        .filter(|(_, length)| **length > header.set().log_capacity)
         .map(|(index, length)| format!("phase {} has {}", index + 1, grouped((*length).into())))
         .collect();
-    format!("Too long: {}.", over.join(", "))
+    format!("Too long: {}; {}.", over.join(", "), capacity_words(header))
 }
 
 fn auditor_detail(reading: &Reading) -> Option<String> {

@@ -53,9 +53,9 @@ fn unchecked(rule: u32, item: Option<u32>) -> Option<String> {
 
 #[test]
 fn rule_2() {
-    let words = "the store lacks a whole header of kind 1, has phases, chunk count or ratchet out \
-                 of range, or is not as long as its header says. The device's store has 113 \
-                 bytes, not the 114 of a header and 3 chunks.";
+    let words = "the store lacks a whole header of kind 1 or 6, has phases, chunk count, ratchet \
+                 or set out of range, or is not as long as its header says. The device's store \
+                 has 113 bytes, not the 114 of a header and 3 chunks.";
     refused(2, None, words, |files| {
         files.device.pop();
     });
@@ -63,8 +63,8 @@ fn rule_2() {
 
 #[test]
 fn rule_3() {
-    let words = "the log memory is not 8,192 bytes for each phase. It has 16,385 bytes, not the \
-                 16,384 of 2 phases.";
+    let words = "the log memory is not the log capacity times the phases. It has 16,385 bytes, \
+                 not the 16,384 of 2 phases; the log capacity is 8,192.";
     refused(3, None, words, |files| files.logs.push(0));
 }
 
@@ -77,12 +77,12 @@ fn rule_4() {
 
 #[test]
 fn rule_5() {
-    let rule = "the lengths are not one for each phase, or one is above 8,192.";
+    let rule = "the lengths are not one for each phase, or one is above the log capacity.";
     let words = format!("{rule} It has 7 bytes, not the 8 of 2 phases.");
     refused(5, None, &words, |files| {
         files.lengths.pop();
     });
-    let words = format!("{rule} Too long: phase 2 has 8,193.");
+    let words = format!("{rule} Too long: phase 2 has 8,193; the log capacity is 8,192.");
     refused(5, None, &words, |files| files.set_lengths(&[30, 8193]));
 }
 
@@ -151,8 +151,8 @@ fn rule_17() {
 
 #[test]
 fn rule_18() {
-    let rule = "the entry names no phase of the store, has a data length outside 1 to 512, or \
-                reaches past its phase's length. At byte";
+    let rule = "the entry names no phase of the store, has a data length outside 1 to the data \
+                limit, or reaches past its phase's length. At byte";
     let words = format!(
         "{rule} 200 of the seal file stands an entry of phase 1, offset 20, 10 bytes, chunk 1, \
          ratchet offset 1. The area ends at 30, and the phase's length is 29."
