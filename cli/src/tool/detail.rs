@@ -98,15 +98,30 @@ fn auditor_detail(reading: &Reading) -> Option<String> {
 
 fn headers_detail(device: &Header, reading: &Reading) -> Option<String> {
     let auditor = reading.auditor.as_ref().ok()?;
+    let (set, other) = (device.set(), auditor.set());
     let fields = [
+        ("kind", device.kind() != auditor.kind()),
         ("id", device.id != auditor.id),
         ("phases", device.phases != auditor.phases),
         ("chunk count", device.chunks != auditor.chunks),
         ("ratchet", device.ratchet != auditor.ratchet),
+        ("tag length", set.tag_length != other.tag_length),
+        ("data limit", set.data_limit != other.data_limit),
+        ("log capacity", set.log_capacity != other.log_capacity),
     ];
     let differing = fields.iter().filter(|(_, differs)| *differs);
     let names: Vec<&str> = differing.map(|(name, _)| *name).collect();
-    Some(format!("They differ in: {}.", names.join(", ")))
+    let kinds = kinds_sentence(device, auditor);
+    let words = format!("They differ in: {}. {kinds}", names.join(", "));
+    Some(words.trim_end().to_string())
+}
+
+/// Kinds count though the sets may be the same.
+fn kinds_sentence(device: &Header, auditor: &Header) -> String {
+    match (device.kind(), auditor.kind()) {
+        (one, other) if one == other => String::new(),
+        (one, other) => format!("The device's store has kind {one}, the auditor's kind {other}."),
+    }
 }
 
 fn differing_chunk(material: &Material) -> Option<String> {
