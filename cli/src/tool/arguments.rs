@@ -157,6 +157,18 @@ impl Arguments {
         self.number(flag, self.required(flag)?, range)
     }
 
+    /// The decimal number of a flag that may be left out, if it is in the range.
+    pub fn optional_number(
+        &self,
+        flag: &str,
+        range: RangeInclusive<u32>,
+    ) -> Result<Option<u32>, Failure> {
+        let value = self.values.get(flag);
+        value
+            .map(|value| self.number(flag, value, range))
+            .transpose()
+    }
+
     /// The operands' decimal numbers. An error calls one by this name.
     pub fn numbers(&self, name: &str) -> Result<Vec<u32>, Failure> {
         let operands = self.operands.iter();

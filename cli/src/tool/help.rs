@@ -107,14 +107,23 @@ controller, which burns it in use, and one for the auditor, kept unused.
 
 Usage: pahyndoi pack --id HEX --phases P --chunks C --ratchet N
                      --keys FILE --out FILE [--force]
+                     [--tag-length T] [--data-limit D] [--log-capacity L]
 
-  --id HEX        8 bytes that name the controller, 16 hexadecimal digits
-  --phases P      1 to 8
-  --chunks C      1 to 1024
-  --ratchet N     keys made from each chunk, 1 to 256
-  --keys FILE     the chunks: 32 bytes each, C of them, none all zeros
-  --out FILE      where the store goes
-  --force         replace FILE if it is there
+  --id HEX          8 bytes that name the controller, 16 hexadecimal digits
+  --phases P        1 to 8
+  --chunks C        1 to 1024
+  --ratchet N       keys made from each chunk, 1 to 256
+  --keys FILE       the chunks: 32 bytes each, C of them, none all zeros
+  --out FILE        where the store goes
+  --force           replace FILE if it is there
+
+  --tag-length T    bytes of an item's tag, 16 to 32
+  --data-limit D    the most bytes of an entry's data, 1 to 4096
+  --log-capacity L  bytes of each phase's log, 512 to 65536, not below D
+
+With any of the last three the store is of kind 6 and carries this set of
+parameters; those left out are T = 32, D = 512, L = 8192. Without them it is of
+kind 1, which always has these three.
 
 No keys are made here. FILE's bytes must be random and secret, from a source
 that you trust; whoever knows them can forge seals.
@@ -164,3 +173,24 @@ seal memory takes 50 bytes an entry and 41 a filler.
 
 Exit status: 0 found, 1 refused or none lasts, 2 bad usage.
 ";
+
+#[cfg(test)]
+mod tests {
+    use super::super::set::{DATA_LIMITS, LOG_CAPACITIES, Set, TAG_LENGTHS};
+    use super::*;
+
+    #[test]
+    fn pack_names_the_ranges_of_a_set_and_what_is_left_out() {
+        for range in [TAG_LENGTHS, DATA_LIMITS, LOG_CAPACITIES] {
+            let words = format!(", {} to {}", range.start(), range.end());
+            assert!(PACK.contains(&words), "{words}");
+        }
+        let Set {
+            tag_length,
+            data_limit,
+            log_capacity,
+        } = Set::COMMON;
+        let words = format!("T = {tag_length}, D = {data_limit}, L = {log_capacity}.");
+        assert!(PACK.contains(&words), "{words}");
+    }
+}

@@ -8,6 +8,7 @@ use super::Status;
 use super::arguments::{Arguments, Syntax};
 use super::failure::Failure;
 use super::files;
+use super::set::{DATA_LIMITS, LOG_CAPACITIES, Set, TAG_LENGTHS};
 use super::store::{CHUNK_LENGTH, CHUNKS, Header, PHASES, RATCHET, is_burned};
 use super::text::{counted, grouped, shown};
 
@@ -20,6 +21,9 @@ const SYNTAX: Syntax = Syntax {
         "--ratchet",
         "--keys",
         "--out",
+        "--tag-length",
+        "--data-limit",
+        "--log-capacity",
     ],
     switches: &["--force"],
     operands: 0,
@@ -36,12 +40,15 @@ pub fn run(arguments: &[OsString], out: &mut dyn Write) -> Result<Status, Failur
     files::write(store_path, &store, arguments.has("--force"))?;
     writeln!(
         out,
-        "{}: {}; {}, {} for {}.",
+        "{}: {}; {}, {} for {}{}.",
         shown(store_path),
         counted(store.len(), "byte"),
         counted(usize::from(header.phases), "phase"),
         counted(header.chunks as usize, "chunk"),
         counted(header.keys_of(header.chunks as usize), "item"),
+        header
+            .own_set
+            .map_or(String::new(), |set| format!("; {set}")),
     )?;
     Ok(Status::Done)
 }
@@ -52,8 +59,32 @@ fn header(arguments: &Arguments) -> Result<Header, Failure> {
         phases: arguments.required_number("--phases", PHASES)? as u8,
         chunks: arguments.required_number("--chunks", CHUNKS)?,
         ratchet: arguments.required_number("--ratchet", RATCHET)?,
-        own_set: None,
+        own_set: own_set(arguments)?,
     })
+}
+
+/// The set that the store carries, if a flag names a part of it; what no flag
+/// names is as in kind 1.
+fn own_set(arguments: &Arguments) -> Result<Option<Set>, Failure> {
+    let tag_length = arguments.optional_number("--tag-length", TAG_LENGTHS)?;
+    let data_limit = arguments.optional_number("--data-limit", DATA_LIMITS)?;
+    let log_capacity = arguments.optional_number("--log-capacity", LOG_CAPACITIES)?;
+    if tag_length.or(data_limit).or(log_capacity).is_none() {
+        return Ok(None);
+    }
+    let common = Set::COMMON;
+    let set = Set {
+        tag_length: tag_length.map_or(common.tag_length, |length| length as u8),
+        data_limit: data_limit.unwrap_or(common.data_limit),
+        log_capacity: log_capacity.unwrap_or(common.log_capacity),
+    };
+    match set.log_takes_data() {
+        true => Ok(Some(set)),
+        false => Err(arguments.wrong(format!(
+            "--log-capacity {}: a number not below that of --data-limit, {}",
+            set.log_capacity, set.data_limit
+        ))),
+    }
 }
 
 /// The 8 bytes of 16 hexadecimal digits.

@@ -1,8 +1,10 @@
 //! The parameters that a store sets.
 
+use std::fmt;
 use std::ops::RangeInclusive;
 
 use super::item::number_at;
+use super::text::grouped;
 
 pub const TAG_LENGTHS: RangeInclusive<u32> = 16..=32;
 pub const DATA_LIMITS: RangeInclusive<u32> = 1..=4096;
@@ -53,5 +55,17 @@ impl Set {
     /// Where the log of a phase, 1 or more, begins in the log memory.
     pub fn log_start(&self, phase: u8) -> usize {
         self.log_capacity as usize * (usize::from(phase) - 1)
+    }
+}
+
+impl fmt::Display for Set {
+    fn fmt(&self, formatter: &mut fmt::Formatter<'_>) -> fmt::Result {
+        write!(
+            formatter,
+            "tag length {}, data limit {}, log capacity {}",
+            self.tag_length,
+            grouped(self.data_limit.into()),
+            grouped(self.log_capacity.into())
+        )
     }
 }

@@ -56,6 +56,100 @@ fn store_is_header_and_keys() {
     assert_eq!(folder.read("auditor.store"), [&header[..], &keys].concat());
 }
 
+/// The first byte of a header, and the 9 behind the fields of both kinds.
+fn kind_and_set(store: &[u8]) -> (u8, &[u8]) {
+    (store[0], &store[18..27])
+}
+
+/// All else stands in the store as it does in one of kind 1.
+#[test]
+fn store_carries_its_set() {
+    let keys: Vec<u8> = (1..=128).collect();
+    let common = folder("no-set", &keys);
+    pack(&common, NONE, &[]).ended(0);
+    let common = common.read("auditor.store");
+    let sets: [([&str; 3], &str, [u8; 9]); 3] = [
+        (
+            ["16", "1", "512"],
+            "tag length 16, data limit 1, log capacity 512",
+            [16, 1, 0, 0, 0, 0, 2, 0, 0],
+        ),
+        (
+            ["16", "4096", "4096"],
+            "tag length 16, data limit 4,096, log capacity 4,096",
+            [16, 0, 16, 0, 0, 0, 16, 0, 0],
+        ),
+        (
+            ["32", "4096", "65536"],
+            "tag length 32, data limit 4,096, log capacity 65,536",
+            [32, 0, 16, 0, 0, 0, 0, 1, 0],
+        ),
+    ];
+    for ([tag, data, log], words, bytes) in sets {
+        let folder = folder("set", &keys);
+        let set = [
+            "--tag-length",
+            tag,
+            "--data-limit",
+            data,
+            "--log-capacity",
+            log,
+        ];
+        let text = pack(&folder, NONE, &set).ended(0);
+        let path = folder.path("auditor.store");
+        let expected = format!("{path}: 155 bytes; 3 phases, 4 chunks for 64 items; {words}.\n");
+        assert_eq!(text, expected);
+        let store = folder.read("auditor.store");
+        assert_eq!(kind_and_set(&store), (6, &bytes[..]));
+        assert_eq!(store[1..18], common[1..18]);
+        assert_eq!(store[27..], common[18..]);
+    }
+}
+
+/// One flag is enough; the other two parameters are those of kind 1.
+#[test]
+fn parameters_left_out_are_the_common_ones() {
+    let flags = [
+        ("--tag-length=16", [16, 0, 2, 0, 0, 0, 32, 0, 0]),
+        ("--data-limit=1", [32, 1, 0, 0, 0, 0, 32, 0, 0]),
+        ("--data-limit=4096", [32, 0, 16, 0, 0, 0, 32, 0, 0]),
+        ("--log-capacity=512", [32, 0, 2, 0, 0, 0, 2, 0, 0]),
+        ("--log-capacity=8192", [32, 0, 2, 0, 0, 0, 32, 0, 0]),
+    ];
+    for (flag, set) in flags {
+        let folder = folder("one-flag", &[7; 128]);
+        pack(&folder, NONE, &[flag]).ended(0);
+        let store = folder.read("auditor.store");
+        assert_eq!(kind_and_set(&store), (6, &set[..]), "{flag}");
+        assert_eq!(store.len(), 155);
+    }
+}
+
+/// A store with the smallest and one with the largest set is opened.
+#[test]
+fn packed_stores_open() {
+    for (set, capacity) in [
+        (
+            ["--tag-length=16", "--data-limit=1", "--log-capacity=512"],
+            512,
+        ),
+        (
+            [
+                "--tag-length=32",
+                "--data-limit=4096",
+                "--log-capacity=65536",
+            ],
+            65_536,
+        ),
+    ] {
+        let folder = folder("open", &[7; 128]);
+        pack(&folder, NONE, &set).ended(0);
+        let store = folder.read("auditor.store");
+        let logs = vec![0; 3 * capacity];
+        assert!(pahyndoi::open(&store, &logs, &[0; 3], &[], 0).is_ok());
+    }
+}
+
 #[test]
 fn existing_store_is_left_unless_forced() {
     let folder = folder("force", &[7; 128]);
@@ -130,6 +224,68 @@ fn values_out_of_range() {
         let expected = format!("pahyndoi: {flag} {value}: {reason}\n");
         assert!(error.starts_with(&expected), "{error}");
         assert!(error.ends_with("Try 'pahyndoi pack --help'.\n"), "{error}");
+    }
+    assert!(!fs::exists(folder.path("auditor.store")).unwrap());
+}
+
+#[test]
+fn sets_out_of_range() {
+    let folder = folder("set-range", &[7; 128]);
+    let wrong: [(&[&str], &str); 13] = [
+        (
+            &["--tag-length=15"],
+            "--tag-length 15: a number from 16 to 32",
+        ),
+        (
+            &["--tag-length=33"],
+            "--tag-length 33: a number from 16 to 32",
+        ),
+        (
+            &["--tag-length=272"],
+            "--tag-length 272: a number from 16 to 32",
+        ),
+        (
+            &["--tag-length=+16"],
+            "--tag-length +16: a number from 16 to 32",
+        ),
+        (
+            &["--data-limit=0"],
+            "--data-limit 0: a number from 1 to 4096",
+        ),
+        (
+            &["--data-limit=4097"],
+            "--data-limit 4097: a number from 1 to 4096",
+        ),
+        (
+            &["--data-limit=all"],
+            "--data-limit all: a number from 1 to 4096",
+        ),
+        (
+            &["--log-capacity=511"],
+            "--log-capacity 511: a number from 512 to 65536",
+        ),
+        (
+            &["--log-capacity=65537"],
+            "--log-capacity 65537: a number from 512 to 65536",
+        ),
+        (
+            &["--log-capacity=8,192"],
+            "--log-capacity 8,192: a number from 512 to 65536",
+        ),
+        (
+            &["--log-capacity=512", "--data-limit=513"],
+            "--log-capacity 512: a number not below that of --data-limit, 513",
+        ),
+        (&["--data-limit"], "--data-limit needs a value"),
+        (
+            &["--tag-length=16", "--tag-length=16"],
+            "--tag-length is given twice",
+        ),
+    ];
+    for (flags, reason) in wrong {
+        let error = pack(&folder, NONE, flags).failed();
+        let expected = format!("pahyndoi: {reason}\nTry 'pahyndoi pack --help'.\n");
+        assert_eq!(error, expected);
     }
     assert!(!fs::exists(folder.path("auditor.store")).unwrap());
 }
