@@ -9,7 +9,7 @@ Commands:
   demo    seal a junction's day, audit it, and let an intruder at it
   audit   say whether the material in files is accepted, and if not, why
   item    say which item sealed a byte of a log, and show what it sealed
-  dump    list the items of a seal file
+  dump    list the items of a seal file, or what a key store's header says
   pack    make a key store of header and key bytes
   plan    find what a card needs before it is packed
 
@@ -93,12 +93,16 @@ Lists the items of a seal file: number, kind, phase, offset and data length in
 the phase's log, chunk number, ratchet offset, and the first bytes of the tag.
 No tag is checked; that takes an audit.
 
+Of a key store, which the first byte of FILE tells (1 or 6), it says what the
+header says: id, phases, chunks and how many are burned, ratchet, and the set of
+parameters (tag length, data limit, log capacity). No key is shown.
+
 Usage: pahyndoi dump FILE
 
 At most 64 MiB (67,108,864 bytes) are read; a longer file is an error.
 
-Exit status: 0 all is listed, 1 the file is damaged (listed up to there, with
-byte and cause), 2 bad usage or a file that can't be read.
+Exit status: 0 all is listed, 1 the file is damaged (a seal file is listed up to
+there, with byte and cause), 2 bad usage or a file that can't be read.
 ";
 
 pub const PACK: &str = "\

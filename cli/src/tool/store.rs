@@ -54,7 +54,7 @@ impl Header {
             let length = counted(store.len(), "byte");
             return Err(format!("has {length}, and its header takes {needed}"));
         };
-        if !is_store_kind(kind) {
+        if !is_store(bytes) {
             return Err(format!(
                 "has kind {kind}, and a store has kind {COMMON_KIND} or {OWN_SET_KIND}"
             ));
@@ -127,9 +127,9 @@ impl Header {
     }
 }
 
-/// Whether the first byte of a store may be this.
-fn is_store_kind(kind: u8) -> bool {
-    [COMMON_KIND, OWN_SET_KIND].contains(&kind)
+/// Whether the bytes begin with the kind of a store, be it well-formed or not.
+pub fn is_store(bytes: &[u8]) -> bool {
+    matches!(bytes, [COMMON_KIND | OWN_SET_KIND, ..])
 }
 
 /// The bytes before the chunks in a store of this kind.

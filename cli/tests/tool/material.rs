@@ -1,10 +1,10 @@
 //! Material that a controller sealed, as files.
 
+use pahyndoi::model::{Header, Set};
 use pahyndoi::{State, append, close, open};
 
 use crate::folder::Folder;
 
-const LOG_CAPACITY: usize = 8192;
 pub const ENTRY: usize = 50;
 pub const FILLER: usize = 41;
 
@@ -44,10 +44,29 @@ pub fn store(phases: u8, chunks: u32, ratchet: u32) -> Vec<u8> {
     store
 }
 
+pub const fn set(tag_length: u8, data_limit: u32, log_capacity: u32) -> Set {
+    Set {
+        tag_length,
+        data_limit,
+        log_capacity,
+    }
+}
+
+/// As [`store`], but of kind 6, be the set in range or not.
+pub fn store_with(set: Set, phases: u8, chunks: u32, ratchet: u32) -> Vec<u8> {
+    let common = store(phases, chunks, ratchet);
+    let header = Header {
+        own_set: Some(set),
+        ..Header::parse(&common).expect("a store")
+    };
+    [&header.to_bytes(), &common[18..]].concat()
+}
+
 /// Opened with these lengths, these phases' data appended, closed.
 pub fn sealed(unused: Vec<u8>, lengths: &[u32], entries: &[(u8, &[u8])]) -> Files {
     let mut store = unused.clone();
-    let mut logs = vec![0; LOG_CAPACITY * lengths.len()];
+    let header = Header::parse(&unused).expect("a store");
+    let mut logs = vec![0; header.log_memory_length()];
     let mut seal = vec![0; 4000];
     let mut state: State = open(&store, &logs, lengths, &seal, 0).expect("open");
     for (phase, data) in entries {
@@ -75,4 +94,15 @@ pub fn small() -> Files {
         (1, b"ABCDEFGHIJ"),
     ];
     sealed(store(2, 3, 3), &[0, 0], &entries)
+}
+
+/// Two phases, three chunks of three keys: in phase 1 the longest data, in phase
+/// 2 three bytes, and two fillers.
+pub fn small_with(set: Set) -> Files {
+    let longest: Vec<u8> = (b'a'..=b'z')
+        .cycle()
+        .take(set.data_limit as usize)
+        .collect();
+    let entries: [(u8, &[u8]); 4] = [(1, &longest), (2, b"x"), (2, b"y"), (2, b"z")];
+    sealed(store_with(set, 2, 3, 3), &[0, 0], &entries)
 }

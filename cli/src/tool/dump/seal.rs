@@ -1,36 +1,17 @@
-//! `pahyndoi dump`: the items of a seal file as a table.
+//! The items of a seal file as a table.
 
-use std::ffi::OsString;
 use std::io::Write;
 
-use super::Status;
-use super::arguments::Syntax;
-use super::failure::Failure;
-use super::files;
-use super::item::{Item, items};
-use super::set::Set;
-use super::text::{counted, hexadecimal, wrapped};
-
-const SYNTAX: Syntax = Syntax {
-    command: "dump",
-    valued: &[],
-    switches: &[],
-    operands: 1,
-};
+use super::super::Status;
+use super::super::failure::Failure;
+use super::super::item::{Item, items};
+use super::super::set::Set;
+use super::super::text::{counted, hexadecimal, wrapped};
 
 const TAG_SHOWN: usize = 4;
 const HEADING: &str = "   item  kind    phase      offset      length       chunk     ratchet  tag";
 
-pub fn run(arguments: &[OsString], out: &mut dyn Write) -> Result<Status, Failure> {
-    let arguments = SYNTAX.read(arguments)?;
-    let Some(path) = arguments.operand() else {
-        return Err(arguments.wrong("a seal file is missing".to_string()));
-    };
-    let seal_file = files::read(path)?;
-    table(&seal_file, out)
-}
-
-fn table(seal_file: &[u8], out: &mut dyn Write) -> Result<Status, Failure> {
+pub fn dump(seal_file: &[u8], out: &mut dyn Write) -> Result<Status, Failure> {
     let mut count = 0;
     writeln!(out, "{HEADING}")?;
     for item in items(Set::COMMON, seal_file) {
@@ -74,7 +55,7 @@ fn row(item: &Item) -> String {
 
 #[cfg(test)]
 mod tests {
-    use super::super::item::Area;
+    use super::super::super::item::Area;
     use super::*;
 
     #[test]

@@ -1,0 +1,120 @@
+//! `pahyndoi dump` of a key store.
+
+use pahyndoi::model::Set;
+
+use crate::folder::Folder;
+use crate::material::{set, small, small_with, store, store_with};
+use crate::run::{assert_narrow, joined, run};
+
+fn dump(name: &str, store: &[u8], status: i32) -> String {
+    let folder = Folder::new(&format!("dump-store/{name}"));
+    let text = run(&["dump", &folder.write("device.store", store)]).ended(status);
+    assert_narrow(&text);
+    text
+}
+
+#[test]
+fn store_of_kind_6() {
+    let expected = "\
+Key store of kind 6, 59 bytes.
+
+  id            0102030405060708
+  phases        1
+  chunks        1, 0 of them burned
+  ratchet       1 key from each chunk, 1 in all
+  tag length    16 bytes; an entry takes 34 of the seal file, a filler 25
+  data limit    1 byte
+  log capacity  512 bytes; the log memory takes 512
+";
+    let store = store_with(set(16, 1, 512), 1, 1, 1);
+    assert_eq!(dump("smallest", &store, 0), expected);
+    let expected = "\
+Key store of kind 6, 32,795 bytes.
+
+  id            0102030405060708
+  phases        8
+  chunks        1,024, 4 of them burned
+  ratchet       256 keys from each chunk, 262,144 in all
+  tag length    32 bytes; an entry takes 50 of the seal file, a filler 41
+  data limit    4,096 bytes
+  log capacity  65,536 bytes; the log memory takes 524,288
+";
+    // Every 256th chunk is of zeros.
+    let store = store_with(set(32, 4096, 65_536), 8, 1024, 256);
+    assert_eq!(dump("largest", &store, 0), expected);
+}
+
+#[test]
+fn store_of_kind_1() {
+    let expected = "\
+Key store of kind 1, 114 bytes.
+
+  id            0102030405060708
+  phases        2
+  chunks        3, 2 of them burned
+  ratchet       3 keys from each chunk, 9 in all
+  tag length    32 bytes; an entry takes 50 of the seal file, a filler 41
+  data limit    512 bytes
+  log capacity  8,192 bytes; the log memory takes 16,384
+";
+    assert_eq!(dump("kind-1", &small().device, 0), expected);
+}
+
+/// The set alone does not make the kind.
+#[test]
+fn same_set_of_kind_6() {
+    let [one, other] = [store(2, 3, 3), store_with(Set::COMMON, 2, 3, 3)];
+    let one = dump("same-1", &one, 0).replace("kind 1, 114", "kind 6, 123");
+    assert_eq!(dump("same-6", &other, 0), one);
+}
+
+#[test]
+fn burned_chunks_of_kind_6() {
+    let text = dump("burned", &small_with(set(16, 4096, 4096)).device, 0);
+    assert!(
+        text.contains("  chunks        3, 2 of them burned\n"),
+        "{text}"
+    );
+}
+
+/// One parameter after another at both sides of its range.
+#[test]
+fn sets_out_of_range() {
+    let tag = "as its tag length, and 16 to 32 are possible";
+    let data = "as its data limit, and 1 to 4,096 are possible";
+    let log = "as its log capacity, and 512 to 65,536 are possible";
+    let wrong = [
+        (set(15, 512, 8192), format!("15 {tag}")),
+        (set(33, 512, 8192), format!("33 {tag}")),
+        (set(32, 0, 8192), format!("0 {data}")),
+        (set(32, 4097, 8192), format!("4,097 {data}")),
+        (set(32, 1, 511), format!("511 {log}")),
+        (set(32, 512, 65_537), format!("65,537 {log}")),
+        (
+            set(32, 513, 512),
+            "512 as its log capacity, below its data limit, 513".to_string(),
+        ),
+    ];
+    for (set, reason) in wrong {
+        let text = dump("range", &store_with(set, 1, 1, 1), 1);
+        let expected = format!("Damaged: the store names {reason}.");
+        assert_eq!(joined(&text), expected);
+    }
+}
+
+#[test]
+fn short_and_long_stores() {
+    let store = store_with(set(16, 1, 512), 1, 1, 1);
+    for (length, reason) in [
+        (1, "has 1 byte, and its header takes 27"),
+        (26, "has 26 bytes, and its header takes 27"),
+        (27, "has 27 bytes, not the 59 of a header and 1 chunk"),
+        (58, "has 58 bytes, not the 59 of a header and 1 chunk"),
+        (60, "has 60 bytes, not the 59 of a header and 1 chunk"),
+    ] {
+        let mut bytes = store.clone();
+        bytes.resize(length, 7);
+        let expected = format!("Damaged: the store {reason}.\n");
+        assert_eq!(dump("length", &bytes, 1), expected);
+    }
+}
