@@ -6,6 +6,8 @@ mod audit;
 mod demo;
 #[path = "tool/dump.rs"]
 mod dump;
+#[path = "tool/dump_set.rs"]
+mod dump_set;
 #[path = "tool/dump_store.rs"]
 mod dump_store;
 #[path = "tool/folder.rs"]

@@ -97,7 +97,11 @@ Of a key store, which the first byte of FILE tells (1 or 6), it says what the
 header says: id, phases, chunks and how many are burned, ratchet, and the set of
 parameters (tag length, data limit, log capacity). No key is shown.
 
-Usage: pahyndoi dump FILE
+Usage: pahyndoi dump FILE [--store STORE]
+
+  --store STORE   the key store, used or not, with which the seal file FILE was
+                  sealed: its set says how long a tag is; without it, tags are
+                  read as of 32 bytes, which a store of kind 1 has
 
 At most 64 MiB (67,108,864 bytes) are read; a longer file is an error.
 
@@ -184,7 +188,7 @@ mod tests {
     use super::*;
 
     #[test]
-    fn pack_names_the_ranges_of_a_set_and_what_is_left_out() {
+    fn ranges_of_a_set_and_what_is_left_out() {
         for range in [TAG_LENGTHS, DATA_LIMITS, LOG_CAPACITIES] {
             let words = format!(", {} to {}", range.start(), range.end());
             assert!(PACK.contains(&words), "{words}");
@@ -196,5 +200,7 @@ mod tests {
         } = Set::COMMON;
         let words = format!("T = {tag_length}, D = {data_limit}, L = {log_capacity}.");
         assert!(PACK.contains(&words), "{words}");
+        let words = format!("read as of {tag_length} bytes");
+        assert!(DUMP.contains(&words), "{words}");
     }
 }

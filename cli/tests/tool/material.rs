@@ -44,6 +44,15 @@ pub fn store(phases: u8, chunks: u32, ratchet: u32) -> Vec<u8> {
     store
 }
 
+/// The smallest set, one in which an entry can fill a log, the largest, and that
+/// of kind 1.
+pub const SETS: [Set; 4] = [
+    set(16, 1, 512),
+    set(16, 4096, 4096),
+    set(32, 4096, 65_536),
+    Set::COMMON,
+];
+
 pub const fn set(tag_length: u8, data_limit: u32, log_capacity: u32) -> Set {
     Set {
         tag_length,

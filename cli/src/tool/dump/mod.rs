@@ -8,14 +8,15 @@ use std::ffi::OsString;
 use std::io::Write;
 
 use super::Status;
-use super::arguments::Syntax;
+use super::arguments::{Arguments, Syntax};
 use super::failure::Failure;
 use super::files;
-use super::store::is_store;
+use super::set::Set;
+use super::store::{Header, is_store};
 
 const SYNTAX: Syntax = Syntax {
     command: "dump",
-    valued: &[],
+    valued: &["--store"],
     switches: &[],
     operands: 1,
 };
@@ -25,9 +26,20 @@ pub fn run(arguments: &[OsString], out: &mut dyn Write) -> Result<Status, Failur
     let Some(path) = arguments.operand() else {
         return Err(arguments.wrong("a key store or a seal file is missing".to_string()));
     };
+    let set = store_set(&arguments)?;
     let file = files::read(path)?;
-    match is_store(&file) {
-        true => header::dump(&file, out),
-        false => seal::dump(&file, out),
+    match set {
+        None if is_store(&file) => header::dump(&file, out),
+        set => seal::dump(&file, set, out),
     }
+}
+
+/// The set of the store that is named, if one is.
+fn store_set(arguments: &Arguments) -> Result<Option<Set>, Failure> {
+    let Some(path) = arguments.path("--store") else {
+        return Ok(None);
+    };
+    let header = Header::read(&files::read(path)?);
+    let header = header.map_err(|wrong| Failure::file(path, format!("this store {wrong}")))?;
+    Ok(Some(header.set()))
 }

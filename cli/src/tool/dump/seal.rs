@@ -4,21 +4,22 @@ use std::io::Write;
 
 use super::super::Status;
 use super::super::failure::Failure;
-use super::super::item::{Item, items};
+use super::super::item::{Damage, Item, items};
 use super::super::set::Set;
 use super::super::text::{counted, hexadecimal, wrapped};
 
 const TAG_SHOWN: usize = 4;
 const HEADING: &str = "   item  kind    phase      offset      length       chunk     ratchet  tag";
 
-pub fn dump(seal_file: &[u8], out: &mut dyn Write) -> Result<Status, Failure> {
+/// Reads the items by this set; without one, by that of kind 1.
+pub fn dump(seal_file: &[u8], set: Option<Set>, out: &mut dyn Write) -> Result<Status, Failure> {
     let mut count = 0;
     writeln!(out, "{HEADING}")?;
-    for item in items(Set::COMMON, seal_file) {
+    for item in items(set.unwrap_or(Set::COMMON), seal_file) {
         match item {
             Ok(item) => writeln!(out, "{}", row(&item))?,
             Err(damage) => {
-                let text = format!("Damaged from {damage}.");
+                let text = damage_words(damage, set);
                 out.write_all(wrapped("", &text).as_bytes())?;
                 return Ok(Status::Refused);
             }
@@ -32,6 +33,17 @@ pub fn dump(seal_file: &[u8], out: &mut dyn Write) -> Result<Status, Failure> {
         counted(seal_file.len(), "byte")
     )?;
     Ok(Status::Done)
+}
+
+/// Tags of another length look like damage.
+fn damage_words(damage: Damage, set: Option<Set>) -> String {
+    let Set { tag_length, .. } = Set::COMMON;
+    match set {
+        Some(_) => format!("Damaged from {damage}."),
+        None => format!(
+            "Without --store, tags are read as of {tag_length} bytes. Damaged from {damage}."
+        ),
+    }
 }
 
 fn row(item: &Item) -> String {

@@ -1,0 +1,135 @@
+//! `pahyndoi dump` of a seal file, by the set of its store.
+
+use pahyndoi::model::Set;
+
+use crate::folder::Folder;
+use crate::material::{Files, SETS, set, small_with, store_with};
+use crate::run::{Run, assert_narrow, joined, run};
+
+const HEADING: &str = "   item  kind    phase      offset      length       chunk     ratchet  tag";
+
+/// Dumps the seal file as sealed with the store in this one of the files.
+fn dump_with(name: &str, store: &str, files: &Files) -> Run {
+    let folder = written(name, files);
+    let (seal, store) = (folder.path("seal.bin"), folder.path(store));
+    run(&["dump", &seal, "--store", &store])
+}
+
+fn written(name: &str, files: &Files) -> Folder {
+    let folder = Folder::new(&format!("dump-set/{name}"));
+    files.write(&folder);
+    folder
+}
+
+/// Where the items of [`small_with`] end: four entries, then two fillers.
+fn ends(set: Set) -> [usize; 6] {
+    let (entry, filler) = (set.entry_length(), set.filler_length());
+    let last = 4 * entry;
+    [
+        entry,
+        2 * entry,
+        3 * entry,
+        last,
+        last + filler,
+        last + 2 * filler,
+    ]
+}
+
+#[test]
+fn items_of_every_set() {
+    for set in SETS {
+        let files = small_with(set);
+        let length = usize::from(set.tag_length);
+        let tags = ends(set).map(|end| hexadecimal(&files.seal[end - length..][..4]));
+        let expected = format!(
+            "{HEADING}
+      0  entry       1           0  {:>10}           0           0  {}
+      1  entry       2           0           1           0           1  {}
+      2  entry       2           1           1           0           2  {}
+      3  entry       2           2           1           1           0  {}
+      4  filler      -           -           -           1           1  {}
+      5  filler      -           -           -           1           2  {}
+6 items in {} bytes.
+",
+            set.data_limit,
+            tags[0],
+            tags[1],
+            tags[2],
+            tags[3],
+            tags[4],
+            tags[5],
+            ends(set)[5],
+        );
+        assert_eq!(dump_with("sets", "device.store", &files).ended(0), expected);
+        assert_eq!(
+            dump_with("sets", "auditor.store", &files).ended(0),
+            expected
+        );
+    }
+}
+
+#[test]
+fn short_end_of_every_set() {
+    for set in SETS {
+        let mut files = small_with(set);
+        files.seal.pop();
+        let text = dump_with("short-set", "device.store", &files).ended(1);
+        assert_narrow(&text);
+        assert_eq!(
+            text.lines().filter(|line| line.contains("filler")).count(),
+            1
+        );
+        let filler = set.filler_length();
+        let expected = format!(
+            "Damaged from item 5 at byte {}: it takes {filler} bytes and the file ends after {} \
+             of them.",
+            ends(set)[4],
+            filler - 1
+        );
+        assert!(joined(&text).ends_with(&expected), "{text}");
+        assert!(!text.contains("--store"), "{text}");
+    }
+}
+
+/// Short tags can't be told from damage.
+#[test]
+fn short_tags_without_their_store() {
+    let folder = written("short-tags", &small_with(set(16, 1, 512)));
+    let text = run(&["dump", &folder.path("seal.bin")]).ended(1);
+    assert_narrow(&text);
+    let expected = "Without --store, tags are read as of 32 bytes. Damaged from item 1 at byte 50: \
+                    its kind is 0, neither 2 (entry) nor 3 (filler).";
+    assert!(joined(&text).ends_with(expected), "{text}");
+}
+
+fn hexadecimal(bytes: &[u8]) -> String {
+    bytes.iter().map(|byte| format!("{byte:02x}")).collect()
+}
+
+#[test]
+fn wrong_stores() {
+    let mut files = small_with(set(16, 1, 512));
+    files.auditor = store_with(set(15, 1, 512), 2, 3, 3);
+    let error = dump_with("wrong-store", "auditor.store", &files).failed();
+    let expected =
+        "auditor.store: this store names 15 as its tag length, and 16 to 32 are possible\n";
+    assert!(error.ends_with(expected), "{error}");
+    files.auditor = files.seal.clone();
+    let error = dump_with("no-store", "auditor.store", &files).failed();
+    let expected = "auditor.store: this store has kind 2, and a store has kind 1 or 6\n";
+    assert!(error.ends_with(expected), "{error}");
+    let folder = Folder::new("dump-set/missing-store");
+    let seal = folder.write("seal.bin", &files.seal);
+    let error = run(&["dump", &seal, "--store", &folder.path("none")]).failed();
+    assert!(error.ends_with("none: no such file or folder\n"), "{error}");
+}
+
+/// What is said to be sealed with a store is no store itself.
+#[test]
+fn store_in_the_place_of_a_seal_file() {
+    let mut files = small_with(set(16, 1, 512));
+    files.seal = files.device.clone();
+    let text = dump_with("two-stores", "device.store", &files).ended(1);
+    let damage = "Damaged from item 0 at byte 0: its kind is 6, neither 2 (entry) nor 3 (filler).";
+    assert!(joined(&text).ends_with(damage), "{text}");
+}
