@@ -42,14 +42,6 @@ impl Found<'_> {
         .concat()
     }
 
-    fn area_json(&self) -> Value {
-        Value::Object(vec![
-            ("phase", Value::Number(self.area.phase.into())),
-            ("offset", Value::Number(self.area.offset.into())),
-            ("length", Value::Number(self.area.length.into())),
-        ])
-    }
-
     /// Text that is not UTF-8 is null.
     fn data_json(&self) -> Value {
         let text = std::str::from_utf8(self.data).ok();
@@ -75,7 +67,7 @@ pub fn members(found: Option<&Found>) -> [(&'static str, Value); 5] {
         ("place", Value::number(place)),
         ("chunk", Value::number(item.map(|item| item.chunk))),
         ("ratchet", Value::number(item.map(|item| item.ratchet))),
-        ("area", found.map_or(Value::Null, Found::area_json)),
+        ("area", found.map_or(Value::Null, |found| found.area.json())),
         ("data", found.map_or(Value::Null, Found::data_json)),
     ]
 }

@@ -97,11 +97,19 @@ Of a key store, which the first byte of FILE tells (1 or 6), it says what the
 header says: id, phases, chunks and how many are burned, ratchet, and the set of
 parameters (tag length, data limit, log capacity). No key is shown.
 
-Usage: pahyndoi dump FILE [--store STORE]
+Usage: pahyndoi dump FILE [--store STORE] [--json]
 
   --store STORE   the key store, used or not, with which the seal file FILE was
                   sealed: its set says how long a tag is; without it, tags are
                   read as of 32 bytes, which a store of kind 1 has
+
+  --json          print one JSON object: of a seal file content (seal), set
+                  (tag_length, data_limit, log_capacity), items (of item, place
+                  in the file, chunk, ratchet, area, null of a filler, and tag),
+                  detail (the damage, else null); of a key store content
+                  (store), kind, id, phases, chunks, burned, ratchet, set,
+                  detail; with exit status 2 there is none, only the error for
+                  people
 
 At most 64 MiB (67,108,864 bytes) are read; a longer file is an error.
 

@@ -56,7 +56,7 @@ fn write_object(
 }
 
 /// What stands before the value or member of this index.
-fn comma(index: usize) -> &'static str {
+pub fn comma(index: usize) -> &'static str {
     if index == 0 { "" } else { "," }
 }
 

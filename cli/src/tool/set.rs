@@ -4,6 +4,7 @@ use std::fmt;
 use std::ops::RangeInclusive;
 
 use super::item::number_at;
+use super::json::Value;
 use super::text::grouped;
 
 pub const TAG_LENGTHS: RangeInclusive<u32> = 16..=32;
@@ -50,6 +51,14 @@ impl Set {
     /// Whether a log has room for the longest data.
     pub fn log_takes_data(&self) -> bool {
         self.log_capacity >= self.data_limit
+    }
+
+    pub fn json(&self) -> Value {
+        Value::Object(vec![
+            ("tag_length", Value::Number(self.tag_length.into())),
+            ("data_limit", Value::Number(self.data_limit.into())),
+            ("log_capacity", Value::Number(self.log_capacity.into())),
+        ])
     }
 
     /// Where the log of a phase, 1 or more, begins in the log memory.

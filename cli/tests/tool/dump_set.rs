@@ -1,4 +1,4 @@
-//! `pahyndoi dump` of a seal file, by the set of its store.
+//! `pahyndoi dump` of a seal file, by the set of its store and for machines.
 
 use pahyndoi::model::Set;
 
@@ -102,8 +102,90 @@ fn short_tags_without_their_store() {
     assert!(joined(&text).ends_with(expected), "{text}");
 }
 
+/// The items of [`small_with`] for machines, up to this number.
+fn items_json(set: Set, seal: &[u8], count: usize) -> String {
+    let length = usize::from(set.tag_length);
+    let areas = [(1, 0, set.data_limit), (2, 0, 1), (2, 1, 1), (2, 2, 1)];
+    let places = [0].into_iter().chain(ends(set)).zip(ends(set));
+    let items = places.enumerate().map(|(number, (place, end))| {
+        let area = areas.get(number).map_or("null".to_string(), |(phase, offset, length)| {
+            format!(r#"{{"phase":{phase},"offset":{offset},"length":{length}}}"#)
+        });
+        let (chunk, ratchet) = (number / 3, number % 3);
+        let tag = hexadecimal(&seal[end - length..end]);
+        format!(
+            r#"{{"item":{number},"place":{place},"chunk":{chunk},"ratchet":{ratchet},"area":{area},"tag":"{tag}"}}"#
+        )
+    });
+    items.take(count).collect::<Vec<_>>().join(",")
+}
+
 fn hexadecimal(bytes: &[u8]) -> String {
     bytes.iter().map(|byte| format!("{byte:02x}")).collect()
+}
+
+fn set_json(set: Set) -> String {
+    format!(
+        r#"{{"tag_length":{},"data_limit":{},"log_capacity":{}}}"#,
+        set.tag_length, set.data_limit, set.log_capacity
+    )
+}
+
+#[test]
+fn json_of_every_set() {
+    for set in SETS {
+        let files = small_with(set);
+        let folder = written("json", &files);
+        let (seal, store) = (folder.path("seal.bin"), folder.path("device.store"));
+        let json = run(&["dump", "--json", "--store", &store, &seal]).ended(0);
+        let expected = format!(
+            "{{\"content\":\"seal\",\"set\":{},\"items\":[{}],\"detail\":null}}\n",
+            set_json(set),
+            items_json(set, &files.seal, 6)
+        );
+        assert_eq!(json, expected);
+    }
+}
+
+#[test]
+fn json_without_a_store() {
+    let files = small_with(Set::COMMON);
+    let seal = written("json-alone", &files).path("seal.bin");
+    let json = run(&["dump", &seal, "--json"]).ended(0);
+    let items = items_json(Set::COMMON, &files.seal, 6);
+    assert!(
+        json.contains(&format!("\"items\":[{items}],\"detail\":null}}\n")),
+        "{json}"
+    );
+    assert!(json.contains(&set_json(Set::COMMON)), "{json}");
+}
+
+#[test]
+fn json_of_damage() {
+    let [smallest, ..] = SETS;
+    let mut files = small_with(smallest);
+    files.seal[ends(smallest)[3]] = 9;
+    let folder = written("json-damage", &files);
+    let (seal, store) = (folder.path("seal.bin"), folder.path("device.store"));
+    let json = run(&["dump", &seal, "--store", &store, "--json"]).ended(1);
+    let expected = format!(
+        "{{\"content\":\"seal\",\"set\":{},\"items\":[{}],\"detail\":\"Damaged from item 4 at \
+         byte 136: its kind is 9, neither 2 (entry) nor 3 (filler).\"}}\n",
+        set_json(smallest),
+        items_json(smallest, &files.seal, 4)
+    );
+    assert_eq!(json, expected);
+    let json = run(&["dump", &seal, "--json"]).ended(1);
+    let detail = "\"detail\":\"Without --store, tags are read as of 32 bytes. Damaged from item 1 ";
+    assert!(json.contains(detail), "{json}");
+    assert_eq!(json.lines().count(), 1);
+}
+
+#[test]
+fn json_of_an_empty_file() {
+    let folder = Folder::new("dump-set/json-empty");
+    let json = run(&["dump", &folder.write("seal.bin", &[]), "--json"]).ended(0);
+    assert!(json.ends_with(",\"items\":[],\"detail\":null}\n"), "{json}");
 }
 
 #[test]

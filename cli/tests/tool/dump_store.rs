@@ -77,6 +77,30 @@ fn burned_chunks_of_kind_6() {
     );
 }
 
+fn json(name: &str, store: &[u8], status: i32) -> String {
+    let folder = Folder::new(&format!("dump-store/json-{name}"));
+    run(&["dump", "--json", &folder.write("device.store", store)]).ended(status)
+}
+
+#[test]
+fn json_of_stores() {
+    let expected = "{\"content\":\"store\",\"kind\":6,\"id\":\"0102030405060708\",\"phases\":2,\
+                    \"chunks\":3,\"burned\":2,\"ratchet\":3,\"set\":{\"tag_length\":16,\
+                    \"data_limit\":4096,\"log_capacity\":4096},\"detail\":null}\n";
+    let device = small_with(set(16, 4096, 4096)).device;
+    assert_eq!(json("6", &device, 0), expected);
+    let expected = "{\"content\":\"store\",\"kind\":1,\"id\":\"0102030405060708\",\"phases\":1,\
+                    \"chunks\":4,\"burned\":0,\"ratchet\":5,\"set\":{\"tag_length\":32,\
+                    \"data_limit\":512,\"log_capacity\":8192},\"detail\":null}\n";
+    assert_eq!(json("1", &store(1, 4, 5), 0), expected);
+    let expected = "{\"content\":\"store\",\"kind\":null,\"id\":null,\"phases\":null,\
+                    \"chunks\":null,\"burned\":null,\"ratchet\":null,\"set\":null,\"detail\":\
+                    \"Damaged: the store names 0 as its data limit, and 1 to 4,096 are \
+                    possible.\"}\n";
+    let wrong = store_with(set(16, 0, 4096), 1, 1, 1);
+    assert_eq!(json("damaged", &wrong, 1), expected);
+}
+
 /// One parameter after another at both sides of its range.
 #[test]
 fn sets_out_of_range() {

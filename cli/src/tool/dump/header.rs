@@ -1,25 +1,49 @@
-//! What the header of a key store says, its set included.
+//! What the header of a key store says, in words and for machines.
 
 use std::io::Write;
 
 use super::super::Status;
 use super::super::failure::Failure;
 use super::super::item::{entry_length, filler_length};
+use super::super::json::Value;
 use super::super::store::{Header, chunks, is_burned};
 use super::super::text::{counted, grouped, hexadecimal, wrapped};
 
-pub fn dump(store: &[u8], out: &mut dyn Write) -> Result<Status, Failure> {
-    match Header::read(store) {
-        Ok(header) => {
-            out.write_all(words(&header, store).as_bytes())?;
-            Ok(Status::Done)
-        }
-        Err(wrong) => {
-            let text = format!("Damaged: the store {wrong}.");
-            out.write_all(wrapped("", &text).as_bytes())?;
-            Ok(Status::Refused)
-        }
+pub fn dump(store: &[u8], json: bool, out: &mut dyn Write) -> Result<Status, Failure> {
+    let header = Header::read(store).map_err(|wrong| format!("Damaged: the store {wrong}."));
+    let text = match &header {
+        _ if json => format!("{}\n", object(&header, store)),
+        Ok(header) => words(header, store),
+        Err(damage) => wrapped("", damage),
+    };
+    out.write_all(text.as_bytes())?;
+    match header {
+        Ok(_) => Ok(Status::Done),
+        Err(_) => Ok(Status::Refused),
     }
+}
+
+/// Members that do not apply are null.
+fn object(header: &Result<Header, String>, store: &[u8]) -> Value {
+    let damage = header.as_ref().err().map(String::as_str);
+    let header = header.as_ref().ok();
+    let id = header.map(|header| hexadecimal(&header.id));
+    let burned = header.map(|_| burned(store) as u64);
+    let set = header.map(|header| header.set().json());
+    Value::Object(vec![
+        ("content", Value::text("store")),
+        ("kind", Value::number(header.map(Header::kind))),
+        ("id", id.map_or(Value::Null, Value::Text)),
+        ("phases", Value::number(header.map(|header| header.phases))),
+        ("chunks", Value::number(header.map(|header| header.chunks))),
+        ("burned", Value::number(burned)),
+        (
+            "ratchet",
+            Value::number(header.map(|header| header.ratchet)),
+        ),
+        ("set", set.unwrap_or(Value::Null)),
+        ("detail", damage.map_or(Value::Null, Value::text)),
+    ])
 }
 
 /// A line for the store, and one for each field.

@@ -17,7 +17,7 @@ use super::store::{Header, is_store};
 const SYNTAX: Syntax = Syntax {
     command: "dump",
     valued: &["--store"],
-    switches: &[],
+    switches: &["--json"],
     operands: 1,
 };
 
@@ -28,9 +28,10 @@ pub fn run(arguments: &[OsString], out: &mut dyn Write) -> Result<Status, Failur
     };
     let set = store_set(&arguments)?;
     let file = files::read(path)?;
-    match set {
-        None if is_store(&file) => header::dump(&file, out),
-        set => seal::dump(&file, set, out),
+    match (set, arguments.has("--json")) {
+        (None, json) if is_store(&file) => header::dump(&file, json, out),
+        (set, true) => seal::json(&file, set, out),
+        (set, false) => seal::table(&file, set, out),
     }
 }
 

@@ -1,10 +1,11 @@
-//! The items of a seal file as a table.
+//! The items of a seal file, as a table and for machines.
 
 use std::io::Write;
 
 use super::super::Status;
 use super::super::failure::Failure;
 use super::super::item::{Damage, Item, items};
+use super::super::json::{Value, comma};
 use super::super::set::Set;
 use super::super::text::{counted, hexadecimal, wrapped};
 
@@ -12,7 +13,7 @@ const TAG_SHOWN: usize = 4;
 const HEADING: &str = "   item  kind    phase      offset      length       chunk     ratchet  tag";
 
 /// Reads the items by this set; without one, by that of kind 1.
-pub fn dump(seal_file: &[u8], set: Option<Set>, out: &mut dyn Write) -> Result<Status, Failure> {
+pub fn table(seal_file: &[u8], set: Option<Set>, out: &mut dyn Write) -> Result<Status, Failure> {
     let mut count = 0;
     writeln!(out, "{HEADING}")?;
     for item in items(set.unwrap_or(Set::COMMON), seal_file) {
@@ -33,6 +34,41 @@ pub fn dump(seal_file: &[u8], set: Option<Set>, out: &mut dyn Write) -> Result<S
         counted(seal_file.len(), "byte")
     )?;
     Ok(Status::Done)
+}
+
+/// One object, written item by item: there may be millions of them.
+pub fn json(seal_file: &[u8], set: Option<Set>, out: &mut dyn Write) -> Result<Status, Failure> {
+    let read_by = set.unwrap_or(Set::COMMON);
+    let (mut status, mut detail) = (Status::Done, Value::Null);
+    write!(
+        out,
+        "{{\"content\":\"seal\",\"set\":{},\"items\":[",
+        read_by.json()
+    )?;
+    for item in items(read_by, seal_file) {
+        match item {
+            Ok(item) => write!(out, "{}{}", comma(item.number), item_json(&item))?,
+            Err(damage) => {
+                status = Status::Refused;
+                detail = Value::Text(damage_words(damage, set));
+            }
+        }
+    }
+    writeln!(out, "],\"detail\":{detail}}}")?;
+    Ok(status)
+}
+
+/// A filler's area is null.
+fn item_json(item: &Item) -> Value {
+    let area = item.area.map_or(Value::Null, |area| area.json());
+    Value::Object(vec![
+        ("item", Value::Number(item.number as u64)),
+        ("place", Value::Number(item.place.start as u64)),
+        ("chunk", Value::Number(item.chunk.into())),
+        ("ratchet", Value::Number(item.ratchet.into())),
+        ("area", area),
+        ("tag", Value::Text(hexadecimal(&item.tag))),
+    ])
 }
 
 /// Tags of another length look like damage.
