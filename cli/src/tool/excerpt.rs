@@ -56,7 +56,8 @@ impl Excerpt<'_> {
     fn row(&self, form: &Form, row: Range<usize>) -> String {
         let bytes = self.bytes[row.clone()].iter();
         let cells: Vec<String> = bytes.map(|byte| (form.byte)(*byte)).collect();
-        let head = format!("  {:>4}  {}", self.offset + row.start, form.edge);
+        let (offset, columns) = (self.offset + row.start, self.offset_columns());
+        let head = format!("  {offset:>columns$}  {}", form.edge);
         let mut text = format!("{head}{}{}\n", cells.join(form.between), form.edge);
         if row.contains(&self.marked) {
             let (before, from) = cells.split_at(self.marked - row.start);
@@ -65,6 +66,12 @@ impl Excerpt<'_> {
             text += &format!("{:column$}{}\n", "", "^".repeat(from[0].len()));
         }
         text
+    }
+
+    /// Four, or more where the last offset needs them.
+    fn offset_columns(&self) -> usize {
+        let end = self.offset + self.bytes.len();
+        end.saturating_sub(1).to_string().len().max(4)
     }
 }
 
@@ -160,6 +167,23 @@ mod tests {
         assert_eq!(ends(&[0; 33]), [16, 32, 33]);
         let escape_without_room = [&[b'a'; 61][..], &[0]].concat();
         assert_eq!(ends(&escape_without_room), [61, 62]);
+    }
+
+    /// Rows before byte 10,000 stand as far to the right as those behind it.
+    #[test]
+    fn offsets_of_five_digits_keep_their_columns() {
+        let text = excerpt(&[b'a'; 20], 9990, 16).hexadecimal();
+        let rows: Vec<&str> = text.lines().collect();
+        assert!(rows[0].starts_with("   9990  61 61"), "{text}");
+        assert!(rows[1].starts_with("  10006  61 61"), "{text}");
+        assert_eq!(rows[2], "         ^^");
+        assert!(
+            excerpt(&[b'a'; 10], 9990, 0)
+                .text()
+                .starts_with("  9990  |")
+        );
+        let text = excerpt(&[b'a'; 64], 65_472, 63).text();
+        assert!(text.lines().all(|line| line.len() <= 80), "{text}");
     }
 
     /// First and last byte of each row: one mark, below the row that has it.

@@ -6,12 +6,13 @@ use std::ops::Range;
 use super::coverage::{Byte, Coverage, Covered, Log};
 use super::item::Damage;
 use super::reading::Reading;
-use super::text::{counted, grouped, wrapped};
+use super::text::{COLUMNS, counted, grouped, wrapped};
 
-/// The cells of a bar. A full log has 128 bytes for each.
+/// The cells of a bar. A full log has 128 bytes for each, with the set of kind 1.
 const CELLS: usize = 64;
 const ITEMS_LISTED: usize = 12;
-const ITEMS_IN_A_ROW: usize = 3;
+/// The columns of a listed item, where its numbers do not need more.
+const ITEM_COLUMNS: usize = 25;
 const GAPS_LISTED: usize = 6;
 const OUTSIDE_LISTED: usize = 8;
 
@@ -118,16 +119,25 @@ fn item_rows(areas: &[Covered], refused: Option<usize>) -> String {
             format!("{mark} item {}: {}", area.item, span(&area.bytes))
         })
         .collect();
-    let mut text = String::new();
-    for row in listed.chunks(ITEMS_IN_A_ROW) {
-        let cells: Vec<String> = row.iter().map(|cell| format!("{cell:<25}")).collect();
-        text += &format!("  {}\n", cells.join(" ").trim_end());
-    }
+    let mut text = in_columns(&listed);
     if areas.len() > listed.len() {
         text += &format!(
             "  and {}\n",
             counted(areas.len() - listed.len(), "more item")
         );
+    }
+    text
+}
+
+/// As many side by side behind two spaces as 80 columns take.
+fn in_columns(cells: &[String]) -> String {
+    let widths = cells.iter().map(String::len);
+    let width = widths.fold(ITEM_COLUMNS, usize::max);
+    let in_a_row = (COLUMNS - 1) / (width + 1);
+    let mut text = String::new();
+    for row in cells.chunks(in_a_row) {
+        let row: Vec<String> = row.iter().map(|cell| format!("{cell:<width$}")).collect();
+        text += &format!("  {}\n", row.join(" ").trim_end());
     }
     text
 }
@@ -161,7 +171,10 @@ fn outside_sentence(outside: &[usize]) -> String {
 #[cfg(test)]
 mod tests {
     use super::super::coverage::tests::coverage;
-    use super::super::reading::tests::{lengths, reading, seal_file};
+    use super::super::reading::tests::{
+        lengths, reading, reading_with, seal_file, seal_file_with, store,
+    };
+    use super::super::set::Set;
     use super::*;
 
     fn log_picture(length: u32, areas: &[(u8, u32, u32)], refused: Option<u32>) -> String {
@@ -270,6 +283,63 @@ Phase 1: 2 items, 4 of 12 bytes covered without a gap
         assert!(picture.lines().all(|line| line.len() <= 80), "{picture}");
         assert!(picture.contains("Not drawn"), "{picture}");
         assert!(picture.contains("Damaged from item 20000"), "{picture}");
+    }
+
+    /// The longest cells of kind 1 stand three in a row, longer ones two.
+    #[test]
+    fn items_stand_in_as_many_columns_as_fit() {
+        for (item, bytes, rows) in [
+            (1_636_800, 8191..8192, 4),
+            (262_143, 61_440..65_536, 6),
+            (2_684_353, 61_440..65_536, 6),
+        ] {
+            let areas = vec![Covered { item, bytes }; ITEMS_LISTED];
+            let text = item_rows(&areas, None);
+            assert_eq!(text.lines().count(), rows, "{text}");
+            assert!(text.lines().all(|line| line.len() <= COLUMNS), "{text}");
+        }
+    }
+
+    /// A full log of the longest entries, and one that is cut to its capacity.
+    #[test]
+    fn bars_follow_the_set() {
+        let set = Set {
+            tag_length: 16,
+            data_limit: 4096,
+            log_capacity: 65_536,
+        };
+        let areas: Vec<_> = (0..16).map(|index| (1, index * 4096, 4096)).collect();
+        let picture = picture_with(set, &[65_536, 65_537], &areas);
+        let bar = "aaaabbbbccccddddeeeeffffgggghhhhiiiijjjjkkkkllllmmmmnnnnoooopppp";
+        assert!(picture.contains(&format!("|{bar}|")), "{picture}");
+        let full = "Phase 1: 16 items, 65,536 of 65,536 bytes covered without a gap";
+        assert!(picture.contains(full), "{picture}");
+        let cut = "Phase 2: 0 items, 0 of 65,536 bytes covered without a gap";
+        assert!(picture.contains(cut), "{picture}");
+        assert!(
+            picture.lines().all(|line| line.len() <= COLUMNS),
+            "{picture}"
+        );
+    }
+
+    /// The data limit is the set's, be it below that of kind 1 or above.
+    #[test]
+    fn areas_beyond_the_data_limit_are_not_drawn() {
+        for data_limit in [1, 512, 4096] {
+            let set = Set {
+                data_limit,
+                ..Set::COMMON
+            };
+            let areas = [(1, 0, data_limit), (1, data_limit, data_limit + 1)];
+            let picture = picture_with(set, &[8192], &areas);
+            let outside = "with areas that lie in no log: 1 item (1).\n";
+            assert!(picture.ends_with(outside), "{picture}");
+        }
+    }
+
+    fn picture_with(set: Set, numbers: &[u32], areas: &[(u8, u32, u32)]) -> String {
+        let (lengths, seal) = (lengths(numbers), seal_file_with(set, areas));
+        draw(&reading_with(&store(set), &lengths, &seal), None)
     }
 
     #[test]

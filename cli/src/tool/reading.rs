@@ -49,12 +49,23 @@ impl Reading<'_> {
 
 #[cfg(test)]
 pub mod tests {
+    use super::super::item::entry_length;
+    use super::super::store::CHUNK_LENGTH;
     use super::*;
 
     /// A reading without stores and logs.
     pub fn reading<'a>(lengths: &'a [u8], seal_file: &'a [u8]) -> Reading<'a> {
+        reading_with(&[], lengths, seal_file)
+    }
+
+    /// A reading with this store as the device's.
+    pub fn reading_with<'a>(
+        device_store: &'a [u8],
+        lengths: &'a [u8],
+        seal_file: &'a [u8],
+    ) -> Reading<'a> {
         Reading::of(Material {
-            device_store: &[],
+            device_store,
             auditor_store: &[],
             logs: &[],
             lengths,
@@ -62,13 +73,29 @@ pub mod tests {
         })
     }
 
+    /// A store of kind 6.
+    pub fn store(set: Set) -> Vec<u8> {
+        let header = Header {
+            id: [0; 8],
+            phases: 1,
+            chunks: 1,
+            ratchet: 1,
+            own_set: Some(set),
+        };
+        [header.to_bytes(), vec![7; CHUNK_LENGTH]].concat()
+    }
+
     /// A seal file of entries with these phases, offsets and lengths.
     pub fn seal_file(areas: &[(u8, u32, u32)]) -> Vec<u8> {
+        seal_file_with(Set::COMMON, areas)
+    }
+
+    pub fn seal_file_with(set: Set, areas: &[(u8, u32, u32)]) -> Vec<u8> {
         let entry = |(phase, offset, length): &(u8, u32, u32)| {
             let mut bytes = vec![2, *phase];
             bytes.extend(offset.to_le_bytes());
             bytes.extend(length.to_le_bytes());
-            bytes.resize(50, 0);
+            bytes.resize(entry_length(set), 0);
             bytes
         };
         areas.iter().flat_map(entry).collect()
@@ -87,12 +114,6 @@ pub mod tests {
     /// The device's set counts; a store that is malformed has none.
     #[test]
     fn set_is_the_devices_else_the_auditors() {
-        let store = |set: Set| {
-            let mut bytes = vec![6, 1, 2, 3, 4, 5, 6, 7, 8, 1, 1, 0, 0, 0, 1, 0, 0, 0];
-            bytes.extend(set.to_bytes());
-            bytes.resize(bytes.len() + 32, 7);
-            bytes
-        };
         let [one, other] = [16, 17].map(|tag_length| Set {
             tag_length,
             ..Set::COMMON
