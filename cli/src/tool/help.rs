@@ -183,9 +183,10 @@ In the table > marks the answer. Where no N from 1 to 256 lasts, it says which
 card has chunks enough. More counts, larger ones and other numbers of chunks are
 refused by rule 25.
 
-The plan is of chunks alone. The logs of a card take 8,192 bytes a phase, so
-never more than 65,536 entries; a longer plan is answered and said to be so. The
-seal memory takes 50 bytes an entry and 41 a filler.
+The plan is of chunks alone. The logs of a card of kind 1 take 8,192 bytes a
+phase, so never more than 65,536 entries; a longer plan is answered, and what
+logs it takes is said. In the seal memory an entry takes 18 bytes and its tag, a
+filler 9 and its tag; with kind 1 that is 50 and 41.
 
 Exit status: 0 found, 1 refused or none lasts, 2 bad usage.
 ";

@@ -143,8 +143,8 @@ fn none_lasts_and_another_card_does() {
     let expected = "\
 NONE LASTS: even N = 256 takes 1,003 chunks, 1,000 more than the card has.
   The smallest card with chunks enough has 1,003.
-  The plan has 256,608 entries, and the logs of one card take 65,536 at most, of
-  a byte each: split it over several cards.
+  The plan has 256,608 entries, and the logs of a card of kind 1 take 65,536 at
+  most, of a byte each: it takes 8 phases with a log capacity of 32,076 or more.
 
       N     chunks
     253      1,018  1,015 too many
@@ -162,8 +162,8 @@ NONE LASTS: even N = 256 takes 1,003 chunks, 1,000 more than the card has.
     ];
     let expected = format!(
         "{{\"verdict\":\"none\",\"rule\":null,\"reason\":null,\"detail\":\"The plan has \
-         256,608 entries, and the logs of one card take 65,536 at most, of a byte each: split \
-         it over several cards.\",\"chunks\":3,\
+         256,608 entries, and the logs of a card of kind 1 take 65,536 at most, of a byte each: \
+         it takes 8 phases with a log capacity of 32,076 or more.\",\"chunks\":3,\
          \"counts\":[65536,65536,65536,60000],\"ratchet\":null,\"taken\":null,\"left\":null,\
          \"table\":{},\"card\":1003}}\n",
         rows_json(&rows)
@@ -197,8 +197,8 @@ fn no_card_has_chunks_enough() {
     let expected = "\
 NONE LASTS: even N = 256 takes 1,025 chunks, 1 more than the card has.
   No card has chunks enough: the largest has 1,024.
-  The plan has 262,144 entries, and the logs of one card take 65,536 at most, of
-  a byte each: split it over several cards.
+  The plan has 262,144 entries, and the logs of a card of kind 1 take 65,536 at
+  most, of a byte each: it takes 8 phases with a log capacity of 32,768 or more.
 
       N     chunks
     253      1,041  17 too many
@@ -216,8 +216,8 @@ NONE LASTS: even N = 256 takes 1,025 chunks, 1 more than the card has.
     ];
     let expected = format!(
         "{{\"verdict\":\"none\",\"rule\":null,\"reason\":null,\"detail\":\"The plan has \
-         262,144 entries, and the logs of one card take 65,536 at most, of a byte each: split \
-         it over several cards.\",\"chunks\":1024,\"counts\":[65536,65536,65536,65535,1],\
+         262,144 entries, and the logs of a card of kind 1 take 65,536 at most, of a byte each: \
+         it takes 8 phases with a log capacity of 32,768 or more.\",\"chunks\":1024,\"counts\":[65536,65536,65536,65535,1],\
          \"ratchet\":null,\"taken\":null,\"left\":null,\"table\":{},\"card\":null}}\n",
         rows_json(&rows)
     );
@@ -227,14 +227,29 @@ NONE LASTS: even N = 256 takes 1,025 chunks, 1 more than the card has.
 /// Chunks last, and what the logs can't take is said all the same.
 #[test]
 fn entries_beyond_the_logs() {
-    let said = "The plan has 65,537 entries, and the logs of one card take 65,536 at most, of a \
-                byte each: split it over several cards.";
+    let said = "The plan has 65,537 entries, and the logs of a card of kind 1 take 65,536 at most, \
+                of a byte each: it takes 8 phases with a log capacity of 8,193 or more.";
     let text = joined(&words(1024, &[65_536, 1], 0));
     assert!(text.contains(said), "{text}");
     let line = json(1024, &[65_536, 1], 0);
     assert!(line.contains(&format!("\"detail\":\"{said}\",")), "{line}");
     assert!(!words(1024, &[65_535, 1], 0).contains("entries"));
     assert!(json(1024, &[65_535, 1], 0).contains("\"detail\":null,"));
+}
+
+/// The largest logs take 524,288 entries.
+#[test]
+fn entries_beyond_all_logs() {
+    for (last, said) in [
+        (
+            0,
+            "it takes 8 phases with a log capacity of 65,536 or more.",
+        ),
+        (1, "it takes several cards."),
+    ] {
+        let text = joined(&words(1, &[&[65_536; 8][..], &[last]].concat(), 1));
+        assert!(text.contains(&format!(" of a byte each: {said}")), "{text}");
+    }
 }
 
 #[test]

@@ -1,6 +1,6 @@
 //! The counts that a card is planned for, and the chunks that they take.
 
-use super::super::set::Set;
+use super::super::set::{LOG_CAPACITIES, Set};
 use super::super::store::{CHUNKS, PHASES, RATCHET};
 use super::super::text::{counted, grouped};
 
@@ -45,17 +45,18 @@ impl Plan {
         }
     }
 
-    /// Why chunks alone do not decide, if the logs can't take the entries: each
-    /// has a byte or more.
+    /// Why chunks alone do not decide, if the logs of kind 1 can't take the
+    /// entries: each has a byte or more.
     pub fn beyond_the_logs(&self) -> Option<String> {
         let room = u64::from(*PHASES.end()) * u64::from(Set::COMMON.log_capacity);
         let entries: u64 = self.counts.iter().copied().map(u64::from).sum();
         (entries > room).then(|| {
             format!(
-                "The plan has {} entries, and the logs of one card take {} at most, of a byte \
-                 each: split it over several cards.",
+                "The plan has {} entries, and the logs of a card of kind 1 take {} at most, of a \
+                 byte each: it takes {}.",
                 grouped(entries),
-                grouped(room)
+                grouped(room),
+                logs_for(entries)
             )
         })
     }
@@ -70,5 +71,17 @@ impl Plan {
             Some(count) => format!("A count is {}.", grouped((*count).into())),
             None => format!("The chunk count is {}.", grouped(self.chunks.into())),
         }
+    }
+}
+
+/// What has room for so many entries of a byte.
+fn logs_for(entries: u64) -> String {
+    let (phases, largest) = (PHASES.end(), LOG_CAPACITIES.end());
+    match entries.div_ceil((*phases).into()) {
+        capacity if capacity <= u64::from(*largest) => format!(
+            "{phases} phases with a log capacity of {} or more",
+            grouped(capacity)
+        ),
+        _ => "several cards".to_string(),
     }
 }
