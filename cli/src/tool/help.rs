@@ -40,7 +40,8 @@ Usage: pahyndoi audit [FOLDER] [FLAGS]
 In FOLDER are looked for, and each flag names another file instead:
   --device FILE   device.store, the controller's key store as it came home
   --auditor FILE  auditor.store, the copy of the unused store
-  --logs FILE     logs.bin, the log memory: 8,192 bytes a phase
+  --logs FILE     logs.bin, the log memory: for each phase the log capacity of
+                  the store, 8,192 bytes with kind 1
   --lengths FILE  lengths.bin, the log lengths: 4 bytes a phase, little-endian
   --seal FILE     seal.bin, the seal file
 
@@ -69,7 +70,8 @@ Usage: pahyndoi item [FOLDER] --phase P --offset O [FLAGS]
 In FOLDER are looked for, and each flag names another file instead:
   --device FILE   device.store, the controller's key store as it came home
   --auditor FILE  auditor.store, the copy of the unused store
-  --logs FILE     logs.bin, the log memory: 8,192 bytes a phase
+  --logs FILE     logs.bin, the log memory: for each phase the log capacity of
+                  the store, 8,192 bytes with kind 1
   --lengths FILE  lengths.bin, the log lengths: 4 bytes a phase, little-endian
   --seal FILE     seal.bin, the seal file
 
@@ -193,23 +195,40 @@ Exit status: 0 found, 1 refused or none lasts, 2 bad usage.
 
 #[cfg(test)]
 mod tests {
+    use super::super::item::{entry_length, filler_length};
     use super::super::set::{DATA_LIMITS, LOG_CAPACITIES, Set, TAG_LENGTHS};
+    use super::super::text::grouped;
     use super::*;
 
+    fn assert_says(help: &str, words: &str) {
+        assert!(help.contains(words), "{words}");
+    }
+
     #[test]
-    fn ranges_of_a_set_and_what_is_left_out() {
+    fn ranges_of_a_set() {
         for range in [TAG_LENGTHS, DATA_LIMITS, LOG_CAPACITIES] {
             let words = format!(", {} to {}", range.start(), range.end());
-            assert!(PACK.contains(&words), "{words}");
+            assert_says(PACK, &words);
         }
+    }
+
+    #[test]
+    fn set_of_kind_1() {
         let Set {
             tag_length,
             data_limit,
             log_capacity,
         } = Set::COMMON;
         let words = format!("T = {tag_length}, D = {data_limit}, L = {log_capacity}.");
-        assert!(PACK.contains(&words), "{words}");
-        let words = format!("read as of {tag_length} bytes");
-        assert!(DUMP.contains(&words), "{words}");
+        assert_says(PACK, &words);
+        assert_says(DUMP, &format!("read as of {tag_length} bytes"));
+        let capacity = grouped(log_capacity.into());
+        for help in [AUDIT, ITEM] {
+            assert_says(help, &format!("the store, {capacity} bytes with kind 1"));
+        }
+        assert_says(PLAN_RATCHET, &format!("kind 1 take {capacity} bytes a"));
+        let (entry, filler) = (entry_length(Set::COMMON), filler_length(Set::COMMON));
+        let words = format!("with kind 1 that is {entry} and {filler}.");
+        assert_says(PLAN_RATCHET, &words);
     }
 }
