@@ -30,5 +30,9 @@ mod random;
 mod refusals;
 #[path = "tool/run.rs"]
 mod run;
+#[path = "tool/set_refusals.rs"]
+mod set_refusals;
+#[path = "tool/sets.rs"]
+mod sets;
 #[path = "tool/usage.rs"]
 mod usage;

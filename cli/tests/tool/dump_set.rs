@@ -206,6 +206,21 @@ fn wrong_stores() {
     assert!(error.ends_with("none: no such file or folder\n"), "{error}");
 }
 
+#[test]
+fn wrong_arguments() {
+    let wrong: [(&[&str], &str); 4] = [
+        (&["seal.bin", "--store"], "--store needs a value"),
+        (&["--store=a", "--store=b"], "--store is given twice"),
+        (&["--store=a"], "a key store or a seal file is missing"),
+        (&["seal.bin", "--json=yes"], "unknown flag '--json=yes'"),
+    ];
+    for (arguments, reason) in wrong {
+        let error = run(&[&["dump"], arguments].concat()).failed();
+        let expected = format!("pahyndoi: {reason}\nTry 'pahyndoi dump --help'.\n");
+        assert_eq!(error, expected);
+    }
+}
+
 /// What is said to be sealed with a store is no store itself.
 #[test]
 fn store_in_the_place_of_a_seal_file() {

@@ -3,7 +3,7 @@
 use pahyndoi::model::Set;
 
 use crate::folder::Folder;
-use crate::material::{set, small, small_with, store, store_with};
+use crate::material::{set, sets_out_of_range, small, small_with, store, store_with};
 use crate::run::{assert_narrow, joined, run};
 
 fn dump(name: &str, store: &[u8], status: i32) -> String {
@@ -101,27 +101,11 @@ fn json_of_stores() {
     assert_eq!(json("damaged", &wrong, 1), expected);
 }
 
-/// One parameter after another at both sides of its range.
 #[test]
-fn sets_out_of_range() {
-    let tag = "as its tag length, and 16 to 32 are possible";
-    let data = "as its data limit, and 1 to 4,096 are possible";
-    let log = "as its log capacity, and 512 to 65,536 are possible";
-    let wrong = [
-        (set(15, 512, 8192), format!("15 {tag}")),
-        (set(33, 512, 8192), format!("33 {tag}")),
-        (set(32, 0, 8192), format!("0 {data}")),
-        (set(32, 4097, 8192), format!("4,097 {data}")),
-        (set(32, 1, 511), format!("511 {log}")),
-        (set(32, 512, 65_537), format!("65,537 {log}")),
-        (
-            set(32, 513, 512),
-            "512 as its log capacity, below its data limit, 513".to_string(),
-        ),
-    ];
-    for (set, reason) in wrong {
+fn wrong_sets() {
+    for (set, reason) in sets_out_of_range() {
         let text = dump("range", &store_with(set, 1, 1, 1), 1);
-        let expected = format!("Damaged: the store names {reason}.");
+        let expected = format!("Damaged: the store {reason}.");
         assert_eq!(joined(&text), expected);
     }
 }

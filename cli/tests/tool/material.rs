@@ -61,6 +61,44 @@ pub const fn set(tag_length: u8, data_limit: u32, log_capacity: u32) -> Set {
     }
 }
 
+/// Each parameter one beyond its range, on either side, and the words for it.
+pub fn sets_out_of_range() -> [(Set, &'static str); 8] {
+    [
+        (
+            set(15, 512, 8192),
+            "names 15 as its tag length, and 16 to 32 are possible",
+        ),
+        (
+            set(33, 512, 8192),
+            "names 33 as its tag length, and 16 to 32 are possible",
+        ),
+        (
+            set(32, 0, 8192),
+            "names 0 as its data limit, and 1 to 4,096 are possible",
+        ),
+        (
+            set(32, 4097, 8192),
+            "names 4,097 as its data limit, and 1 to 4,096 are possible",
+        ),
+        (
+            set(32, 1, 511),
+            "names 511 as its log capacity, and 512 to 65,536 are possible",
+        ),
+        (
+            set(32, 512, 65_537),
+            "names 65,537 as its log capacity, and 512 to 65,536 are possible",
+        ),
+        (
+            set(32, 513, 512),
+            "names 512 as its log capacity, below its data limit, 513",
+        ),
+        (
+            set(32, 4096, 4095),
+            "names 4,095 as its log capacity, below its data limit, 4,096",
+        ),
+    ]
+}
+
 /// As [`store`], but of kind 6, be the set in range or not.
 pub fn store_with(set: Set, phases: u8, chunks: u32, ratchet: u32) -> Vec<u8> {
     let common = store(phases, chunks, ratchet);

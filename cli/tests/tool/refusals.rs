@@ -1,5 +1,7 @@
 //! Each refusal of the audit, in words: those of `audit` and of `item`.
 
+use std::thread;
+
 use crate::folder::Folder;
 use crate::material::{ENTRY, Files, sealed, small, store};
 use crate::run::{assert_narrow, joined};
@@ -11,8 +13,13 @@ fn refused(rule: u32, item: Option<u32>, words: &str, change: impl Fn(&mut Files
     refused_files(rule, item, words, &files);
 }
 
-fn refused_files(rule: u32, item: Option<u32>, words: &str, files: &Files) {
-    let folder = Folder::new(&format!("refusals/{rule}"));
+pub fn refused_files(rule: u32, item: Option<u32>, words: &str, files: &Files) {
+    // A test's thread has its name: two tests of one rule run side by side.
+    let test = thread::current()
+        .name()
+        .unwrap_or_default()
+        .replace("::", "-");
+    let folder = Folder::new(&format!("refusals/{test}"));
     files.write(&folder);
     let at_item = item.map_or(String::new(), |item| format!(" at item {item}"));
     let expected = format!("REFUSED by rule {rule}{at_item}: {words}");

@@ -35,6 +35,16 @@ fn help_of_pack_says_who_makes_keys() {
 }
 
 #[test]
+fn help_of_pack_says_which_store_carries_a_set() {
+    let text = run(&["pack", "--help"]).ended(0);
+    let words = "With any of the last three the store is of kind 6";
+    assert!(text.contains(words), "{text}");
+    for flag in ["--tag-length T", "--data-limit D", "--log-capacity L"] {
+        assert_eq!(text.matches(flag).count(), 2, "{text}");
+    }
+}
+
+#[test]
 fn help_of_item_says_how_bytes_are_written() {
     let text = run(&["item", "--help"]).ended(0);
     let words = "are written as \\n, \\t, \\r or \\xff,\nand a backslash as two.";
