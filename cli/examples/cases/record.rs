@@ -73,8 +73,12 @@ pub const LISTED_COUNTS: usize = 12;
 pub const LISTED_START: usize = 16;
 
 /// The longest that a program reading the script must hold.
-pub const SCRIPT_LIMIT: usize = 131_072;
+pub const SCRIPT_LIMIT: usize = 262_144;
 pub const STORE_LIMIT: u32 = 40_000;
-pub const LOG_MEMORY_LIMIT: u32 = 65_536;
 pub const SEAL_MEMORY_LIMIT: u32 = 16_384;
-pub const DATA_LIMIT: u32 = 1024;
+
+/// Two of the longest logs, and one byte more.
+pub const LOG_MEMORY_LIMIT: u32 = 131_073;
+
+/// The longest data, and one byte more.
+pub const DATA_LIMIT: u32 = 4097;

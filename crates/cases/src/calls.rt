@@ -26,7 +26,7 @@ const MAX_LISTED: usize = 12;
 const LAST_START: usize = 54;
 
 // The most data that a record appends.
-const MAX_DATA: usize = 1024;
+const MAX_DATA: usize = 4097;
 
 pub fn open(view: View, record: &[u8], store: &[u8], logs: &[u8], seal: &[u8]) -> View {
     let a = within(view.store, store);
@@ -184,7 +184,7 @@ fn lengths_of(record: &[u8]) -> [u32; MAX_LENGTHS]
 
 // Bytes that count up from the first.
 fn data_of(first: u8) -> [u8; MAX_DATA]
-    ensures { λ r. ⌜ 1024 ≡ length r ⌝ }
+    ensures { λ r. ⌜ 4097 ≡ length r ⌝ }
 {
     let mut bytes = [0; MAX_DATA];
     let mut next = first;

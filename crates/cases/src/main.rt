@@ -64,10 +64,10 @@ fn step(
 }
 
 // Of these arrays only the length is stated, so that no proof carries their bytes.
-fn script_memory() -> [u8; 131072]
-    ensures { λ r. ⌜ 131072 ≡ length r ⌝ }
+fn script_memory() -> [u8; 262144]
+    ensures { λ r. ⌜ 262144 ≡ length r ⌝ }
 {
-    [0; 131072]
+    [0; 262144]
 }
 
 fn store_memory() -> [u8; 40000]
@@ -76,10 +76,10 @@ fn store_memory() -> [u8; 40000]
     [0; 40000]
 }
 
-fn log_memory() -> [u8; 65536]
-    ensures { λ r. ⌜ 65536 ≡ length r ⌝ }
+fn log_memory() -> [u8; 131073]
+    ensures { λ r. ⌜ 131073 ≡ length r ⌝ }
 {
-    [0; 65536]
+    [0; 131073]
 }
 
 fn seal_memory() -> [u8; 16384]

@@ -52,8 +52,8 @@ struct Shape {
 }
 
 impl Shape {
-    /// Lengths as `docs/FORMAT.md`, 2 and 4, has them, as far as a record can
-    /// say them.
+    /// Lengths as `docs/FORMAT.md`, 2 and 4, has them, where phases and chunk
+    /// count are in range.
     fn of(phases: u8, chunk_count: u32, ratchet: u32, seal_memory: u32) -> Shape {
         let chunks_length = chunk_count.wrapping_mul(CHUNK_LENGTH);
         Shape {
@@ -62,7 +62,7 @@ impl Shape {
             chunk_count,
             ratchet,
             store_length: chunks_length + HEADER_LENGTH,
-            log_memory: (LOG_CAPACITY * u32::from(phases)).min(LOG_MEMORY_LIMIT),
+            log_memory: LOG_CAPACITY * u32::from(phases.min(8)),
             seal_memory,
         }
     }

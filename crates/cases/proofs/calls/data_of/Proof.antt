@@ -7,10 +7,10 @@ use Rattle.cases.proofs.calls.data_of.Statement.{statement}
 use Rattle.cases.proofs.calls.data_of.Tie as tie
 
 abbrev Inv-loop : tie.InvT-loop
-Inv-loop first bytes₀ next₀ i₀ bytes next i = (i ≤ 1024) × (length bytes ≡ 1024)
+Inv-loop first bytes₀ next₀ i₀ bytes next i = (i ≤ 4097) × (length bytes ≡ 4097)
 
 abbrev μ-loop : tie.MeasureT-loop
-μ-loop first bytes₀ next₀ i₀ bytes next i = 1024 - i
+μ-loop first bytes₀ next₀ i₀ bytes next i = 4097 - i
 
 loop-holds : tie.Need-loop-holds Inv-loop μ-loop
 loop-holds c = search needs
