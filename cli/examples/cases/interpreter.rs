@@ -8,7 +8,6 @@ use pahyndoi::plain;
 
 use crate::record::*;
 
-const HEADER_LENGTH: usize = 18;
 const LOG_MEMORY_FILL: u8 = 0xee;
 const SEAL_MEMORY_FILL: u8 = 0xdd;
 
@@ -79,8 +78,9 @@ fn material(record: &Record) -> Material {
     let mut store = vec![record.byte(1), 1, 2, 3, 4, 5, 6, 7, 8, record.byte(2)];
     store.extend(record.number(4).to_le_bytes());
     store.extend(record.number(8).to_le_bytes());
+    store.extend(&record.0[SET_START..][..usize::from(record.byte(3))]);
     let store_length = record.length(12, STORE_LIMIT);
-    store.extend((HEADER_LENGTH..store_length).map(|j| ((j * 7 + 3) % 255) as u8 + 1));
+    store.extend((store.len()..store_length).map(|j| ((j * 7 + 3) % 255) as u8 + 1));
     store.truncate(store_length);
     Material {
         store,

@@ -7,8 +7,9 @@ pub const RECORD_LENGTH: usize = 64;
 pub const LABEL: u8 = 0;
 
 /// New store, memories and state of zeros, no auditor's store. 1: kind,
-/// 2: phases, 4: chunk count, 8: N, 12: store length, 16: log memory length,
-/// 20: seal memory length.
+/// 2: phases, 3: how many bytes of a set the header has, 4: chunk count, 8: N,
+/// 12: store length, 16: log memory length, 20: seal memory length, 24: the
+/// set's bytes.
 pub const MATERIAL: u8 = 1;
 
 /// 1: the number of lengths, 8: seal length (8 bytes), 16: nine lengths.
@@ -63,6 +64,8 @@ pub const BYTES_START: usize = 8;
 pub const LENGTHS_LIMIT: usize = 9;
 
 pub const LENGTHS_START: usize = 16;
+
+pub const SET_START: usize = 24;
 
 /// The most counts that one record lends.
 pub const COUNTS_LIMIT: usize = 66;

@@ -1,4 +1,5 @@
 // What the calls work on, and how a record makes it.
+ghost use Prim.Native.Nat.{_≤_};
 use crate::memory::fill;
 use crate::memory::within;
 use crate::record::byte;
@@ -68,10 +69,13 @@ fn write_store(store: &mut [u8], record: &[u8]) {
 }
 
 // The byte at a place of a store: the kind, the id 1 to 8, the phases and the two counts, which the record has six places
-// earlier; then key bytes, none of them 0.
+// earlier; its bytes of a set, which it has six places later; then key bytes, none of them 0.
 fn store_byte(record: &[u8], at: usize) -> u8 {
-    if HEADER_LENGTH as usize <= at {
+    if header_length(record) <= at {
         return ((at % 255 * 7 + 3) % 255 + 1) as u8;
+    }
+    if HEADER_LENGTH as usize <= at {
+        return byte(record, at + 6);
     }
     if at == 0 {
         return byte(record, 1);
@@ -83,4 +87,11 @@ fn store_byte(record: &[u8], at: usize) -> u8 {
         return byte(record, 2);
     }
     byte(record, at - 6)
+}
+
+// The bytes before the chunks; byte 3 says how many of them are a set's.
+fn header_length(record: &[u8]) -> usize
+    ensures { λ r. ⌜ r ≤ 273 ⌝ }
+{
+    HEADER_LENGTH as usize + byte(record, 3) as usize
 }
