@@ -15,23 +15,27 @@ pub(super) fn groups(script: &mut Script) {
 }
 
 /// An item's number, and the phase, the offset and the length of its area.
-type Found = (u32, u8, u32, u32);
+pub(super) type Found = (u32, u8, u32, u32);
 
 impl Script {
     /// Presents the case. The byte must lead to this item and its area.
-    fn expect_item(&mut self, item: Found, case: &Case, (phase, offset): (u8, u32)) {
+    pub(super) fn expect_item(&mut self, item: Found, case: &Case, (phase, offset): (u8, u32)) {
         let (number, of_phase, start, length) = item;
-        let place = LOG_CAPACITY * u32::from(of_phase - 1) + start;
-        let part = place as usize..(place + length) as usize;
+        let place = case.header().log_start(of_phase) + start as usize;
+        let part = place..place + length as usize;
         self.look_up_in(case, phase, offset);
-        let given = self.machine.answer;
-        assert_eq!((given.refusal, given.number), (0, number));
+        self.assert_answer((0, number));
         assert_eq!(self.machine.part, part);
     }
 
     /// Presents the case. The lookup must give this refusal and this number,
     /// and no part.
-    fn expect_none(&mut self, answer: (u32, u32), case: &Case, (phase, offset): (u8, u32)) {
+    pub(super) fn expect_none(
+        &mut self,
+        answer: (u32, u32),
+        case: &Case,
+        (phase, offset): (u8, u32),
+    ) {
         self.look_up_in(case, phase, offset);
         self.assert_refused(answer);
     }
@@ -43,8 +47,7 @@ impl Script {
     }
 
     fn assert_refused(&self, answer: (u32, u32)) {
-        let given = self.machine.answer;
-        assert_eq!((given.refusal, given.number), answer);
+        self.assert_answer(answer);
         assert_eq!(self.machine.part, 0..0);
     }
 }

@@ -14,7 +14,13 @@ mod stores;
 use crate::interpreter::Machine;
 use crate::record::*;
 
+/// The kind of a store with a set of its own.
+const OWN_SET_KIND: u8 = 6;
+
+/// The bytes before the chunks, without a set and with one.
 const HEADER_LENGTH: u32 = 18;
+const OWN_SET_HEADER_LENGTH: u32 = 27;
+
 const CHUNK_LENGTH: u32 = 32;
 const LOG_CAPACITY: u32 = 8192;
 
@@ -218,6 +224,12 @@ impl Script {
         );
     }
 
+    /// The last call must have given this refusal and this number.
+    fn assert_answer(&self, answer: (u32, u32)) {
+        let given = self.machine.answer;
+        assert_eq!((given.refusal, given.number), answer);
+    }
+
     /// A record with these bytes at these places and zeros elsewhere.
     fn push(&mut self, operation: u8, parts: &[(usize, &[u8])]) {
         let mut record = [0; RECORD_LENGTH];
@@ -239,6 +251,15 @@ fn unlisted(counts: &[u32]) -> Option<(usize, u32)> {
         let same = others.all(|index| counts[index] == other);
         same.then_some((first, other))
     })
+}
+
+/// The bytes before the chunks of a store.
+fn header_length(store: &[u8]) -> usize {
+    let length = match store[0] {
+        OWN_SET_KIND => OWN_SET_HEADER_LENGTH,
+        _ => HEADER_LENGTH,
+    };
+    length as usize
 }
 
 /// A chunk of zeros but for these bytes, each behind its index.

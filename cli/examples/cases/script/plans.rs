@@ -27,14 +27,12 @@ impl Script {
     /// The plan must answer this ratchet, 0 where none lasts.
     fn expect_ratchet(&mut self, ratchet: u32, counts: &[u32], chunk_count: u32) {
         self.plan(counts, chunk_count);
-        let given = self.machine.answer;
-        assert_eq!((given.refusal, given.number), (0, ratchet));
+        self.assert_answer((0, ratchet));
     }
 
     fn expect_bad_plan(&mut self, counts: &[u32], chunk_count: u32) {
         self.plan(counts, chunk_count);
-        let given = self.machine.answer;
-        assert_eq!((given.refusal, given.number), (25, 0));
+        self.assert_answer((25, 0));
     }
 }
 

@@ -10,7 +10,7 @@ mod waiting;
 
 use pahyndoi::model::{Head, Header, Item, Position, chunk, key_at, plain_hmac, position};
 
-use super::{CHUNK_LENGTH, HEADER_LENGTH, LOG_CAPACITY, Script};
+use super::{CHUNK_LENGTH, Script, Shape, header_length};
 use crate::record::*;
 
 pub(super) fn groups(script: &mut Script) {
@@ -53,14 +53,16 @@ impl Case {
     /// New material, kept, with no chunk burned and no item. The first bytes
     /// of each log differ.
     fn unused(script: &mut Script, phases: u8, chunk_count: u32, ratchet: u32) -> Case {
-        script.fresh(phases, chunk_count, ratchet, 2000);
+        Case::unused_of(script, Shape::of(phases, chunk_count, ratchet, 2000))
+    }
+
+    /// The same of any shape.
+    pub(super) fn unused_of(script: &mut Script, shape: Shape) -> Case {
+        script.material(shape);
         script.keep();
         let mut case = Case::left(script);
-        for (index, log) in case
-            .log_memory
-            .chunks_mut(LOG_CAPACITY as usize)
-            .enumerate()
-        {
+        let capacity = case.header().set().log_capacity as usize;
+        for (index, log) in case.log_memory.chunks_mut(capacity).enumerate() {
             for (byte, value) in log.iter_mut().take(BYTES_LIMIT).zip(100 * index..) {
                 *byte = value as u8;
             }
@@ -70,7 +72,7 @@ impl Case {
 
     /// The case with these items, sealed by the first keys, and with the
     /// chunks that they begin burned.
-    fn with_items(&self, log_lengths: &[u32], items: &[Wanted]) -> Case {
+    pub(super) fn with_items(&self, log_lengths: &[u32], items: &[Wanted]) -> Case {
         let mut case = self.clone();
         case.log_lengths = log_lengths.to_vec();
         for (number, item) in items.iter().enumerate() {
@@ -84,7 +86,7 @@ impl Case {
     }
 
     /// That of the auditor's store.
-    fn header(&self) -> Header {
+    pub(super) fn header(&self) -> Header {
         Header::parse(&self.auditor_store).expect("a store")
     }
 
@@ -128,8 +130,7 @@ impl Case {
 
     /// The data in an area; none where it leaves the memory.
     fn data(&self, phase: u8, offset: u32, length: u32) -> &[u8] {
-        let log_start = LOG_CAPACITY as usize * usize::from(phase.max(1) - 1);
-        let start = log_start + offset as usize;
+        let start = self.header().log_start(phase.max(1)) + offset as usize;
         let area = start..start + length as usize;
         self.log_memory.get(area).unwrap_or_default()
     }
@@ -178,17 +179,16 @@ fn four_items(script: &mut Script) -> Case {
 
 /// A store's bytes of one chunk.
 pub(super) fn chunk_bytes(store: &mut [u8], number: u32) -> &mut [u8] {
-    let start = HEADER_LENGTH + CHUNK_LENGTH * number;
-    &mut store[start as usize..][..CHUNK_LENGTH as usize]
+    let start = header_length(store) + (CHUNK_LENGTH * number) as usize;
+    &mut store[start..][..CHUNK_LENGTH as usize]
 }
 
 impl Script {
     /// Presents the case. The audit must give this refusal and this number.
-    fn expect(&mut self, answer: (u32, u32), case: &Case) {
+    pub(super) fn expect(&mut self, answer: (u32, u32), case: &Case) {
         self.present(case);
         self.audit(&case.log_lengths, case.seal_file.len() as u32);
-        let given = self.machine.answer;
-        assert_eq!((given.refusal, given.number), answer);
+        self.assert_answer(answer);
     }
 
     /// Brings store, auditor's store and memories to what the case has.
