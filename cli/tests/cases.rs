@@ -26,9 +26,9 @@ fn output_is_that_of_the_model() {
     assert_eq!(output.len(), STDOUT.len());
 }
 
-/// The refusals of one call that the output shows, 0 for none.
-fn refusals(name: &str) -> Vec<u32> {
-    let lines = STDOUT
+/// The refusals of one call that these lines show, 0 for none.
+fn refusals(output: &str, name: &str) -> Vec<u32> {
+    let lines = output
         .lines()
         .map(|line| line.split(' ').collect::<Vec<_>>());
     let numbers: BTreeSet<u32> = lines
@@ -40,6 +40,7 @@ fn refusals(name: &str) -> Vec<u32> {
 
 #[test]
 fn every_refusal_is_met() {
+    let refusals = |name| refusals(STDOUT, name);
     assert_eq!(refusals("open"), [0, 2, 3, 4, 5, 6]);
     assert_eq!(refusals("append"), [0, 2, 3, 6, 7, 8, 9, 10, 11]);
     assert_eq!(refusals("close"), [0, 2, 3, 6, 10]);
@@ -47,4 +48,17 @@ fn every_refusal_is_met() {
     assert_eq!(refusals("audit"), of_audit);
     assert_eq!(refusals("lookup"), [&of_audit[..], &[24]].concat());
     assert_eq!(refusals("plan"), [0, 25]);
+}
+
+/// The rows of stores with a set of their own, which stand last.
+#[test]
+fn every_refusal_that_follows_the_set_is_met() {
+    let start = STDOUT.find("\nkind 6: ").expect("a first label");
+    let refusals = |name| refusals(&STDOUT[start..], name);
+    assert_eq!(refusals("open"), [0, 2, 3, 4, 5]);
+    assert_eq!(refusals("append"), [0, 2, 3, 6, 8, 9, 10]);
+    assert_eq!(refusals("close"), [0, 2, 3, 6, 10]);
+    let of_audit = [0, 2, 3, 4, 5, 12, 13, 14, 15, 18, 21, 22, 23];
+    assert_eq!(refusals("audit"), of_audit);
+    assert_eq!(refusals("lookup"), [0, 2, 12, 13, 24]);
 }

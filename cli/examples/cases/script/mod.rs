@@ -1,6 +1,6 @@
 //! The script: sealing under several shapes of store, audits of what it leaves
 //! and of what is forged, lookups of bytes, each refusal at its two sides, and
-//! their order; plans.
+//! their order; plans; the same edges in stores with a set of their own.
 
 mod audits;
 mod fit;
@@ -9,7 +9,10 @@ mod lookups;
 mod order;
 mod plans;
 mod sealing;
+mod sets;
 mod stores;
+
+use pahyndoi::model::Set;
 
 use crate::interpreter::Machine;
 use crate::record::*;
@@ -38,6 +41,7 @@ pub fn script() -> Vec<u8> {
     audits::groups(&mut script);
     lookups::groups(&mut script);
     plans::groups(&mut script);
+    sets::groups(&mut script);
     assert!(
         script.records.len() <= SCRIPT_LIMIT,
         "the script is too long"
@@ -50,6 +54,7 @@ pub fn script() -> Vec<u8> {
 struct Shape {
     kind: u8,
     phases: u8,
+    own_set: Option<Set>,
     chunk_count: u32,
     ratchet: u32,
     store_length: u32,
@@ -65,11 +70,23 @@ impl Shape {
         Shape {
             kind: 1,
             phases,
+            own_set: None,
             chunk_count,
             ratchet,
             store_length: chunks_length + HEADER_LENGTH,
             log_memory: LOG_CAPACITY * u32::from(phases.min(8)),
             seal_memory,
+        }
+    }
+
+    /// The same for a store with a set of its own.
+    fn own(set: Set, phases: u8, chunk_count: u32, ratchet: u32, seal_memory: u32) -> Shape {
+        Shape {
+            kind: OWN_SET_KIND,
+            own_set: Some(set),
+            store_length: chunk_count * CHUNK_LENGTH + OWN_SET_HEADER_LENGTH,
+            log_memory: set.log_capacity * u32::from(phases),
+            ..Shape::of(phases, chunk_count, ratchet, seal_memory)
         }
     }
 }
@@ -86,15 +103,17 @@ impl Script {
     }
 
     fn material(&mut self, shape: Shape) {
+        let set = shape.own_set.map(set_bytes).unwrap_or_default();
         self.push(
             MATERIAL,
             &[
-                (1, &[shape.kind, shape.phases]),
+                (1, &[shape.kind, shape.phases, set.len() as u8]),
                 (4, &shape.chunk_count.to_le_bytes()),
                 (8, &shape.ratchet.to_le_bytes()),
                 (12, &shape.store_length.to_le_bytes()),
                 (16, &shape.log_memory.to_le_bytes()),
                 (20, &shape.seal_memory.to_le_bytes()),
+                (SET_START, &set),
             ],
         );
     }
@@ -251,6 +270,12 @@ fn unlisted(counts: &[u32]) -> Option<(usize, u32)> {
         let same = others.all(|index| counts[index] == other);
         same.then_some((first, other))
     })
+}
+
+/// A set as a header has it.
+fn set_bytes(set: Set) -> Vec<u8> {
+    let numbers = number_bytes(&[set.data_limit, set.log_capacity]);
+    [&[set.tag_length], &numbers[..]].concat()
 }
 
 /// The bytes before the chunks of a store.
