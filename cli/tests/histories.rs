@@ -18,6 +18,8 @@ mod cards;
 mod damage;
 #[path = "histories/device.rs"]
 mod device;
+#[path = "histories/fenced.rs"]
+mod fenced;
 #[path = "histories/forgery.rs"]
 mod forgery;
 #[path = "histories/honest.rs"]
@@ -51,6 +53,7 @@ use std::collections::BTreeSet;
 
 use answer::{is_accepted, split};
 use device::Device;
+use lent::Stand;
 use plans::Outcomes;
 use presentation::Presentation;
 use random::{Case, Run};
@@ -84,7 +87,8 @@ fn make_calls(mut case: Case, tally: &mut Tally) {
         }
         let call = requests::random_call(random, &device);
         case.step = format!("call {number}: {}", calls::describe(&call));
-        let answer = calls::compare(case.random.up_to(8), &mut device, &call);
+        let stand = Stand::random(&mut case.random);
+        let answer = calls::compare(stand, &mut device, &call);
         tally.note(calls::name(&call), answer);
         let lost = struck || calls::lost_state(&call, answer);
         if lost && !(device.is_whole() && case.random.once_in(4)) {
@@ -240,12 +244,12 @@ fn plans_are_those_of_the_model() {
     let run = Run::new(100_000);
     let mut outcomes = Outcomes::default();
     for plan in plans::at_the_edges() {
-        outcomes.note(plan.compare(0));
+        outcomes.note(plan.compare(Stand::Shifted(0)));
     }
     for number in 0..run.cases {
         let mut case = run.case(number);
         let plan = plans::random_plan(&mut case.random);
-        outcomes.note(plan.compare(case.random.up_to(8)));
+        outcomes.note(plan.compare(Stand::random(&mut case.random)));
     }
     outcomes.print();
     if run.whole {

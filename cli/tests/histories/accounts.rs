@@ -6,6 +6,7 @@ use pahyndoi::model::{Account, Call, LOG_CAPACITY, Material, State, is_history, 
 use crate::answer::split;
 use crate::calls::{self, assert_same_material};
 use crate::device::{Device, Shape};
+use crate::lent::Stand;
 use crate::library;
 use crate::presentation::{Presentation, length_bytes};
 use crate::random::{Case, Random};
@@ -123,7 +124,7 @@ impl Recorded {
 
     /// The packed answer. Fails where it, or a byte, is not the account's.
     fn make(&mut self, call: Call) -> u64 {
-        let (answer, after) = library::perform(0, &self.device, &call);
+        let (answer, after) = library::perform(Stand::Shifted(0), &self.device, &call);
         let expected = self.account.call(plain_hmac, &call);
         let expected = (expected.refusal, expected.number);
         assert_eq!(split(answer), expected, "answers: ours, account's");

@@ -4,6 +4,7 @@ use pahyndoi::model::{self, Call, Material};
 
 use crate::answer::split;
 use crate::device::Device;
+use crate::lent::Stand;
 use crate::library;
 
 pub fn name(call: &Call) -> &'static str {
@@ -24,9 +25,9 @@ pub fn describe(call: &Call) -> String {
 
 /// Makes the call by both and gives the packed answer. Fails where they differ
 /// in the answer, the state or any byte.
-pub fn compare(shift: usize, device: &mut Device, call: &Call) -> u64 {
+pub fn compare(stand: Stand, device: &mut Device, call: &Call) -> u64 {
     let before = device.clone();
-    let (answer, after) = library::perform(shift, &before, call);
+    let (answer, after) = library::perform(stand, &before, call);
     let expected = by_model(device, call);
     assert_eq!(split(answer), split(expected), "answers: ours, model's");
     assert_eq!(after.state, device.state, "states: ours, model's");

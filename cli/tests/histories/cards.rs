@@ -9,6 +9,7 @@ use pahyndoi::model::{
 use crate::answer::split;
 use crate::calls::{assert_same_material, name};
 use crate::device::{Device, Shape};
+use crate::lent::Stand;
 use crate::library;
 use crate::random::Random;
 
@@ -134,7 +135,7 @@ impl Card {
     }
 
     fn make(&mut self, call: &Call) -> Result<(), Refused> {
-        let (answer, after) = library::perform(0, &self.device, call);
+        let (answer, after) = library::perform(Stand::Shifted(0), &self.device, call);
         let told = self.account.call(plain_hmac, call);
         assert_eq!(answer, told.packed(), "answers: ours, account's");
         self.device = after;

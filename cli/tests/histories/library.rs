@@ -4,7 +4,7 @@ use pahyndoi::model::{self, Call, Position};
 use pahyndoi::{State, append_raw, close_raw, open_raw};
 
 use crate::device::Device;
-use crate::lent::{Lent, assert_only_read};
+use crate::lent::{Lent, Stand, assert_only_read};
 
 const GUARD: u8 = 0xa5;
 const NUMBER_GUARD: u32 = 0xa5a5_a5a5;
@@ -18,8 +18,8 @@ const STATE_GUARD: State = State {
 
 /// The packed answer, and what the call left of what it was lent. Fails where
 /// the call wrote elsewhere.
-pub fn perform(shift: usize, device: &Device, call: &Call) -> (u64, Device) {
-    let mut loan = Loan::new(shift, device);
+pub fn perform(stand: Stand, device: &Device, call: &Call) -> (u64, Device) {
+    let mut loan = Loan::new(stand, device);
     let answer = match call {
         Call::Open {
             log_lengths,
@@ -32,7 +32,7 @@ pub fn perform(shift: usize, device: &Device, call: &Call) -> (u64, Device) {
 }
 
 struct Loan {
-    shift: usize,
+    stand: Stand,
     state: Lent<State>,
     store: Lent<u8>,
     logs: Lent<u8>,
@@ -40,18 +40,18 @@ struct Loan {
 }
 
 impl Loan {
-    fn new(shift: usize, device: &Device) -> Loan {
+    fn new(stand: Stand, device: &Device) -> Loan {
         Loan {
-            shift,
-            state: Lent::new(&[raw(&device.state)], STATE_GUARD, 0),
-            store: Lent::new(&device.material.store, GUARD, shift),
-            logs: Lent::new(&device.material.log_memory, GUARD, shift),
-            seal: Lent::new(&device.material.seal_memory, GUARD, shift),
+            stand,
+            state: Lent::new(&[raw(&device.state)], STATE_GUARD, stand),
+            store: Lent::new(&device.material.store, GUARD, stand),
+            logs: Lent::new(&device.material.log_memory, GUARD, stand),
+            seal: Lent::new(&device.material.seal_memory, GUARD, stand),
         }
     }
 
     fn open(&mut self, log_lengths: &[u32], seal_length: u64) -> u64 {
-        let lengths = Lent::new(log_lengths, NUMBER_GUARD, self.shift);
+        let lengths = Lent::new(log_lengths, NUMBER_GUARD, self.stand);
         let answer = open_raw(
             &mut self.state.content_mut()[0],
             self.store.content(),
@@ -65,7 +65,7 @@ impl Loan {
     }
 
     fn append(&mut self, phase: u8, data: &[u8]) -> u64 {
-        let lent = Lent::new(data, GUARD, self.shift);
+        let lent = Lent::new(data, GUARD, self.stand);
         let answer = append_raw(
             &mut self.state.content_mut()[0],
             self.store.content_mut(),

@@ -6,7 +6,7 @@ use pahyndoi::least_ratchet_raw;
 use pahyndoi::model::{chunks_needed, least_ratchet};
 
 use crate::answer::split;
-use crate::lent::{Lent, assert_only_read};
+use crate::lent::{Lent, Stand, assert_only_read};
 use crate::random::Random;
 
 const MOST_CHUNKS: u32 = 1024;
@@ -33,8 +33,8 @@ pub struct Plan {
 
 impl Plan {
     /// The packed answer. Fails where it is not the model's.
-    pub fn compare(&self, shift: usize) -> u64 {
-        let lent = Lent::new(&self.counts, GUARD, shift);
+    pub fn compare(&self, stand: Stand) -> u64 {
+        let lent = Lent::new(&self.counts, GUARD, stand);
         let answer = least_ratchet_raw(lent.content(), self.chunks);
         assert_only_read(lent, &self.counts);
         let expected = least_ratchet(&self.counts, self.chunks).packed();

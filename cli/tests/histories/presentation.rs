@@ -4,7 +4,7 @@ use pahyndoi::model::{Audited, Presented, log_lengths, plain_hmac};
 use pahyndoi::{Material, audit_raw};
 
 use crate::answer::{is_accepted, split};
-use crate::lent::{Lent, assert_only_read};
+use crate::lent::{Lent, Stand, assert_only_read};
 use crate::lookups;
 use crate::places::{Place, random_places};
 use crate::random::Random;
@@ -43,7 +43,7 @@ impl Presentation {
     pub fn compare_at(&self, random: &mut Random, tally: &mut Tally, places: &[Place]) -> u64 {
         let log_lengths = log_lengths(&self.length_bytes);
         let audited = Audited::new(plain_hmac, &self.presented(&log_lengths));
-        self.lend(random.up_to(8), |material| {
+        self.lend(Stand::random(random), |material| {
             let ours = audit(material);
             let models = audited.answer().packed();
             assert_eq!(split(ours), split(models), "audits: ours, model's");
@@ -59,15 +59,15 @@ impl Presentation {
     /// From up to so many entries of accepted material to bytes of theirs and
     /// back; answers how many bytes.
     pub fn go_there_and_back(&self, random: &mut Random, most: usize) -> usize {
-        self.lend(random.up_to(8), |material| {
+        self.lend(Stand::random(random), |material| {
             lookups::go_there_and_back(random, material, most)
         })
     }
 
     /// Lends a copy to the library. Fails where it was written.
-    fn lend<T>(&self, shift: usize, use_it: impl FnOnce(&Material) -> T) -> T {
+    fn lend<T>(&self, stand: Stand, use_it: impl FnOnce(&Material) -> T) -> T {
         let parts = self.parts();
-        let lent = parts.map(|bytes| Lent::new(bytes, GUARD, shift));
+        let lent = parts.map(|bytes| Lent::new(bytes, GUARD, stand));
         let [device_store, auditor_store, logs, lengths, seal_file] =
             lent.each_ref().map(Lent::content);
         let answer = use_it(&Material {
