@@ -18,6 +18,8 @@ mod cards;
 mod damage;
 #[path = "histories/device.rs"]
 mod device;
+#[path = "histories/edges.rs"]
+mod edges;
 #[path = "histories/fenced.rs"]
 mod fenced;
 #[path = "histories/forgery.rs"]
@@ -46,6 +48,8 @@ mod random;
 mod requests;
 #[path = "histories/rows.rs"]
 mod rows;
+#[path = "histories/sets.rs"]
+mod sets;
 #[path = "histories/tally.rs"]
 mod tally;
 
@@ -57,27 +61,32 @@ use lent::Stand;
 use plans::Outcomes;
 use presentation::Presentation;
 use random::{Case, Run};
-use tally::Tally;
+use tally::{Tallies, Tally};
 
 #[test]
 fn calls_are_those_of_the_model() {
     let run = Run::new(4000);
-    let mut tally = Tally::default();
-    for number in 0..run.cases {
-        make_calls(run.case(number), &mut tally);
+    let mut tallies = Tallies::default();
+    for case in run.each() {
+        let tally = tallies.of(case.own_set);
+        make_calls(case, tally);
     }
-    tally.print();
+    tallies.print();
     if run.whole {
-        tally.assert_all_met("open", &[0, 2, 3, 4, 5, 6]);
-        tally.assert_all_met("append", &[0, 2, 3, 6, 7, 8, 9, 10, 11]);
-        tally.assert_all_met("close", &[0, 2, 3, 6, 10]);
+        tallies.assert_all_met("open", &[0, 2, 3, 4, 5, 6], 100);
+        tallies.assert_all_met("append", &[0, 2, 3, 6, 7, 8, 9, 10, 11], 100);
+        tallies.assert_all_met("close", &[0, 2, 3, 6, 10], 100);
+        tallies.of_kind_6.assert_all_tags(100);
+        for reached in edges::REACHED {
+            tallies.assert_more(reached, 3);
+        }
     }
 }
 
 /// Calls on one device. Mishaps and refused opens are mostly undone, so that
 /// the others do their work.
 fn make_calls(mut case: Case, tally: &mut Tally) {
-    let mut device = Device::random(&mut case.random);
+    let mut device = Device::random(&mut case.random, case.own_set);
     for number in 0..case.random.between(5, 50) {
         let random = &mut case.random;
         let kept = device.clone();
@@ -87,9 +96,14 @@ fn make_calls(mut case: Case, tally: &mut Tally) {
         }
         let call = requests::random_call(random, &device);
         case.step = format!("call {number}: {}", calls::describe(&call));
+        let (set, edges) = (device.set(), edges::of(&device, &call));
         let stand = Stand::random(&mut case.random);
         let answer = calls::compare(stand, &mut device, &call);
         tally.note(calls::name(&call), answer);
+        edges::note(tally, &edges, answer);
+        if calls::has_sealed(&call, answer) {
+            tally.note_tags(set, 1);
+        }
         let lost = struck || calls::lost_state(&call, answer);
         if lost && !(device.is_whole() && case.random.once_in(4)) {
             device = kept;
@@ -100,17 +114,18 @@ fn make_calls(mut case: Case, tally: &mut Tally) {
 #[test]
 fn histories_are_those_of_their_account() {
     let run = Run::new(2000);
-    let mut tally = Tally::default();
-    for number in 0..run.cases {
-        accounts::check_history(&mut run.case(number), &mut tally);
+    let mut tallies = Tallies::default();
+    for mut case in run.each() {
+        let tally = tallies.of(case.own_set);
+        accounts::check_history(&mut case, tally);
     }
-    tally.print();
+    tallies.print();
     if run.whole {
-        tally.assert_all_met("open", &[0, 5, 6]);
-        tally.assert_all_met("append", &[0, 6, 7, 8, 9, 10, 11]);
-        tally.assert_all_met("close", &[0, 6, 10]);
-        tally.assert_all_met("audit", &[0, 22]);
-        tally.assert_all_met("lookup", &[0, 22, 24]);
+        tallies.assert_all_met("open", &[0, 5, 6], 50);
+        tallies.assert_all_met("append", &[0, 6, 7, 8, 9, 10, 11], 50);
+        tallies.assert_all_met("close", &[0, 6, 10], 50);
+        tallies.assert_all_met("audit", &[0, 22], 50);
+        tallies.assert_all_met("lookup", &[0, 22, 24], 50);
     }
 }
 
@@ -119,30 +134,33 @@ const AUDIT_REFUSALS: [u32; 17] = [
     0, 2, 3, 4, 5, 12, 13, 14, 15, 16, 17, 18, 19, 20, 21, 22, 23,
 ];
 
+const ACCEPTED: &str = "accepted with a count above 0";
+
 #[test]
 fn audits_and_lookups_are_those_of_the_model() {
     let run = Run::new(4000);
-    let mut tally = Tally::default();
-    let mut accepted = 0;
-    for number in 0..run.cases {
-        let mut case = run.case(number);
-        let damaged = audit_damaged(&mut case, &mut tally);
-        let forged = audit_forged(&mut case, &mut tally);
+    let mut tallies = Tallies::default();
+    for mut case in run.each() {
+        let tally = tallies.of(case.own_set);
+        let damaged = audit_damaged(&mut case, tally);
+        let forged = audit_forged(&mut case, tally);
         let answers = damaged.iter().chain(&forged);
-        accepted += answers.filter(|answer| is_accepted(**answer)).count();
+        let accepted = answers.filter(|answer| is_accepted(**answer)).count();
+        tally.count(ACCEPTED, accepted);
+        tally.note_tags(sets::in_effect(case.own_set), accepted);
     }
-    tally.print();
-    println!("accepted with a count above 0: {accepted}");
+    tallies.print();
     if run.whole {
-        tally.assert_all_met("audit", &AUDIT_REFUSALS);
-        tally.assert_all_met("lookup", &[&AUDIT_REFUSALS[..], &[24]].concat());
-        assert!(accepted > run.cases, "few audits were accepted");
+        tallies.assert_all_met("audit", &AUDIT_REFUSALS, 50);
+        tallies.assert_all_met("lookup", &[&AUDIT_REFUSALS[..], &[24]].concat(), 50);
+        tallies.assert_more(ACCEPTED, run.cases);
+        tallies.of_kind_6.assert_all_tags(100);
     }
 }
 
 /// Audits honest material as it is, then with up to two damages.
 fn audit_damaged(case: &mut Case, tally: &mut Tally) -> Vec<u64> {
-    let (honest, other) = honest::random_pair(&mut case.random);
+    let (honest, other) = honest::random_pair(&mut case.random, case.own_set);
     let mut answers = Vec::new();
     for round in 0..6 {
         case.step = format!("honest material, damage {round}");
@@ -157,7 +175,7 @@ fn audit_forged(case: &mut Case, tally: &mut Tally) -> Vec<u64> {
     let mut answers = Vec::new();
     for round in 0..3 {
         case.step = format!("forgery {round}");
-        let forgery = forgery::random_forgery(&mut case.random);
+        let forgery = forgery::random_forgery(&mut case.random, case.own_set);
         answers.push(forgery.compare(&mut case.random, tally));
     }
     answers
@@ -171,30 +189,33 @@ const ENTRIES_LOOKED_FOR: usize = 60;
 #[test]
 fn entries_are_found_again_from_their_bytes() {
     let run = Run::new(100);
-    let mut tally = Tally::default();
-    let mut looked_up = 0;
-    for number in 0..run.cases {
-        looked_up += find_entries_again(&mut run.case(number), &mut tally);
+    let mut tallies = Tallies::default();
+    for mut case in run.each() {
+        let tally = tallies.of(case.own_set);
+        find_entries_again(&mut case, tally);
     }
-    tally.print();
-    println!("bytes looked up there and back: {looked_up}");
+    tallies.print();
     if run.whole {
-        assert!(looked_up > 50 * run.cases, "few bytes were looked up");
+        tallies.assert_more(LOOKED_UP, 50 * run.cases);
     }
 }
 
-fn find_entries_again(case: &mut Case, tally: &mut Tally) -> usize {
-    let (honest, other) = honest::random_pair(&mut case.random);
-    let forgeries = [0; 4].map(|_| forgery::random_forgery(&mut case.random));
+const LOOKED_UP: &str = "bytes looked up there and back";
+
+fn find_entries_again(case: &mut Case, tally: &mut Tally) {
+    let Case {
+        own_set, random, ..
+    } = case;
+    let (honest, other) = honest::random_pair(random, *own_set);
+    let forgeries = [0; 4].map(|_| forgery::random_forgery(random, *own_set));
     let controllers = [honest, other].map(|honest| honest.presentation);
-    let mut looked_up = 0;
     for (number, material) in controllers.iter().chain(&forgeries).enumerate() {
         case.step = format!("material {number}");
         if is_accepted(material.compare(&mut case.random, tally)) {
-            looked_up += material.go_there_and_back(&mut case.random, ENTRIES_LOOKED_FOR);
+            let looked_up = material.go_there_and_back(&mut case.random, ENTRIES_LOOKED_FOR);
+            tally.count(LOOKED_UP, looked_up);
         }
     }
-    looked_up
 }
 
 /// Forged entries whose answer is known beforehand.
@@ -204,7 +225,7 @@ fn areas_are_taken_as_written() {
     let mut tally = Tally::default();
     for row in rows::rows() {
         case.step = row.name.to_string();
-        let forgery = forgery::seal_areas(&mut case.random, &row.lengths, &row.areas);
+        let forgery = forgery::seal_areas(&mut case.random, None, &row.lengths, &row.areas);
         let answer = forgery.compare(&mut case.random, &mut tally);
         assert_eq!(split(answer), row.answer);
         if is_accepted(answer) {

@@ -1,7 +1,7 @@
 //! Whole histories: the library's calls beside the account that is told from
 //! the calls alone, then the audit of what they left.
 
-use pahyndoi::model::{Account, Call, LOG_CAPACITY, Material, State, is_history, plain_hmac};
+use pahyndoi::model::{Account, Call, Material, Set, State, is_history, plain_hmac};
 
 use crate::answer::split;
 use crate::calls::{self, assert_same_material};
@@ -15,6 +15,7 @@ use crate::tally::Tally;
 /// A device that the library's calls alone bring on, and its account.
 struct Recorded {
     start: Material,
+    set: Set,
     ratchet: usize,
     device: Device,
     account: Account,
@@ -25,7 +26,7 @@ struct Recorded {
 
 /// Makes and checks a history, closes it and audits what it left.
 pub fn check_history(case: &mut Case, tally: &mut Tally) {
-    let mut recorded = Recorded::new(&mut case.random);
+    let mut recorded = Recorded::new(&mut case.random, case.own_set);
     for number in 0..case.random.up_to(60) {
         let call = recorded.random_call(&mut case.random);
         case.step = format!("history, call {number}: {}", calls::describe(&call));
@@ -39,10 +40,17 @@ pub fn check_history(case: &mut Case, tally: &mut Tally) {
     recorded.audit(&mut case.random, tally);
 }
 
+/// Short data, or as long as allowed.
+fn usual_length(random: &mut Random, set: Set) -> usize {
+    let longest = set.data_limit as usize;
+    random.pick(&[5, 20, longest]).min(longest)
+}
+
 impl Recorded {
-    fn new(random: &mut Random) -> Recorded {
+    fn new(random: &mut Random, own_set: Option<Set>) -> Recorded {
         let most_keys = random.pick(&[1, 2, 3, 5, 12]);
         let shape = Shape {
+            own_set,
             phases: random.between(1, 8),
             chunk_count: random.between(1, 40),
             ratchet: match random.once_in(100) {
@@ -58,10 +66,11 @@ impl Recorded {
                 material: start.clone(),
                 state: State::default(),
             },
+            set: shape.set(),
             ratchet: shape.ratchet,
             start,
             calls: Vec::new(),
-            usual_length: random.pick(&[5, 20, 512]),
+            usual_length: usual_length(random, shape.set()),
         }
     }
 
@@ -86,8 +95,9 @@ impl Recorded {
             1..=5 => 1,
             _ => random.between(1, phases),
         };
+        let limit = self.set.data_limit as usize;
         let length = match random.once_in(4) {
-            true => random.pick(&[0, 1, 46, 47, 511, 513]),
+            true => random.pick(&[0, 1, 46, 47, limit - 1, limit + 1]),
             false => self.usual_length,
         };
         Call::Append {
@@ -113,7 +123,7 @@ impl Recorded {
         match random.up_to(3) {
             0 => log_lengths.push(0),
             1 => log_lengths.clear(),
-            2 => log_lengths[0] = LOG_CAPACITY as u32 + 1,
+            2 => log_lengths[0] = self.set.log_capacity + 1,
             _ => seal_length = self.start.seal_memory.len() as u64 + 1,
         }
         Call::Open {

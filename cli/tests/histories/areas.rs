@@ -1,5 +1,7 @@
 //! The areas of entries and the orders in which a forger may present them.
 
+use pahyndoi::model::Set;
+
 use crate::random::Random;
 
 /// Phase, offset and data length.
@@ -7,13 +9,13 @@ pub type Area = (u8, u32, u32);
 
 /// Areas that cover each phase's log without a gap, and the log lengths.
 /// Between them stand fillers, as none.
-pub fn random_areas(random: &mut Random, phases: usize) -> (Vec<u32>, Vec<Option<Area>>) {
+pub fn random_areas(random: &mut Random, set: Set, phases: usize) -> (Vec<u32>, Vec<Option<Area>>) {
     let mut queues = Vec::new();
     let mut lengths = Vec::new();
     for phase in 1..=phases {
         let most = random.pick(&[0, 1, 5, 20, 40]);
         let count = random.up_to(most);
-        let (length, mut areas) = cover(random, phase as u8, count);
+        let (length, mut areas) = cover(random, set, phase as u8, count);
         put_in_order(random, &mut areas);
         areas.reverse();
         queues.push(areas);
@@ -23,15 +25,16 @@ pub fn random_areas(random: &mut Random, phases: usize) -> (Vec<u32>, Vec<Option
 }
 
 /// This many areas, one behind the other from offset 0.
-fn cover(random: &mut Random, phase: u8, count: usize) -> (u32, Vec<Area>) {
-    let most = random.pick(&[1, 2, 40, 200]);
+fn cover(random: &mut Random, set: Set, phase: u8, count: usize) -> (u32, Vec<Area>) {
+    let most = random.pick(&[1, 2, 40, 200]).min(set.data_limit as usize);
     let mut areas = Vec::new();
     let mut offset = 0;
     for _ in 0..count {
         let length = match random.once_in(30) {
-            true => 512.min(8192 - offset),
-            false => random.between(1, most).min(8192 - offset as usize) as u32,
+            true => set.data_limit,
+            false => random.between(1, most) as u32,
         };
+        let length = length.min(set.log_capacity - offset);
         if length > 0 {
             areas.push((phase, offset, length));
         }
@@ -85,7 +88,7 @@ pub fn random_entry(random: &mut Random, areas: &[Option<Area>]) -> Option<usize
 }
 
 /// Alters the area of one entry, or makes a filler of it.
-pub fn spoil(random: &mut Random, areas: &mut [Option<Area>], phases: usize) {
+pub fn spoil(random: &mut Random, set: Set, areas: &mut [Option<Area>], phases: usize) {
     let (Some(index), Some(other)) = (random_entry(random, areas), random_entry(random, areas))
     else {
         return;
@@ -94,8 +97,8 @@ pub fn spoil(random: &mut Random, areas: &mut [Option<Area>], phases: usize) {
     let beside = areas[other].expect("an entry");
     areas[index] = match random.up_to(7) {
         0 => None,
-        1 => Some(out_of_range(random, area, phases)),
-        2 => Some(huge(random, area)),
+        1 => Some(out_of_range(random, set, area, phases)),
+        2 => Some(huge(random, set, area)),
         3 | 4 => Some(overlapping(random, beside)),
         5 => {
             areas[other] = Some(area);
@@ -106,23 +109,35 @@ pub fn spoil(random: &mut Random, areas: &mut [Option<Area>], phases: usize) {
     };
 }
 
-fn out_of_range(random: &mut Random, (phase, offset, length): Area, phases: usize) -> Area {
+fn out_of_range(
+    random: &mut Random,
+    set: Set,
+    (phase, offset, length): Area,
+    phases: usize,
+) -> Area {
+    let Set {
+        data_limit: limit,
+        log_capacity: capacity,
+        ..
+    } = set;
+    let lengths = [0, limit + 1, limit + 2, 1 << 16, u32::MAX];
+    let offsets = [capacity - 1, capacity, 1 << 16, 1 << 31];
     match random.up_to(2) {
         0 => (random.pick(&[0, phases as u8 + 1, 9, 255]), offset, length),
-        1 => (
-            phase,
-            offset,
-            random.pick(&[0, 513, 514, 1 << 16, u32::MAX]),
-        ),
-        _ => (phase, random.pick(&[8191, 8192, 1 << 16, 1 << 31]), length),
+        1 => (phase, offset, random.pick(&lengths)),
+        _ => (phase, random.pick(&offsets), length),
     }
 }
 
 /// The end of the area, taken in 32 bits, stands within the log.
-fn huge(random: &mut Random, (phase, offset, length): Area) -> Area {
+fn huge(random: &mut Random, set: Set, (phase, offset, length): Area) -> Area {
+    let limit = set.data_limit;
     match random.up_to(2) {
         0 => (phase, 0u32.wrapping_sub(length), length),
-        1 => (phase, 0u32.wrapping_sub(random.up_to(512) as u32), 512),
+        1 => {
+            let before = random.up_to(limit as usize) as u32;
+            (phase, 0u32.wrapping_sub(before), limit)
+        }
         _ => (phase, offset, 0u32.wrapping_sub(random.up_to(9) as u32)),
     }
 }

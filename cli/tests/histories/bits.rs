@@ -52,6 +52,7 @@ fn all_places() -> Vec<Place> {
 /// Two phases, three chunks, N = 2: three entries and a filler.
 fn small_material(random: &mut Random) -> Presentation {
     let shape = Shape {
+        own_set: None,
         phases: LENGTHS.len(),
         chunk_count: 3,
         ratchet: 2,
@@ -64,7 +65,7 @@ fn small_material(random: &mut Random) -> Presentation {
         account.call(plain_hmac, &Call::Append { phase, data });
     }
     account.call(plain_hmac, &Call::Close);
-    honest::of_account(&start, &account).presentation
+    honest::of_account(&start, shape.set(), &account).presentation
 }
 
 fn flip_bits(

@@ -38,6 +38,11 @@ pub fn compare(stand: Stand, device: &mut Device, call: &Call) -> u64 {
     answer
 }
 
+/// Whether the call has sealed an entry.
+pub fn has_sealed(call: &Call, answer: u64) -> bool {
+    matches!(call, Call::Append { .. }) && split(answer).0 == 0
+}
+
 /// Whether a refused open has left a state of zeros.
 pub fn lost_state(call: &Call, answer: u64) -> bool {
     matches!(call, Call::Open { .. }) && split(answer).0 != 0

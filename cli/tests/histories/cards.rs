@@ -118,6 +118,7 @@ impl Card {
         seal_memory: usize,
     ) -> Card {
         let shape = Shape {
+            own_set: None,
             phases: random.between(1, 3),
             chunk_count: chunks as usize,
             ratchet: ratchet as usize,

@@ -1,7 +1,8 @@
 //! Damage to honest material by somebody without keys.
 
-use pahyndoi::model::{Item, LOG_CAPACITY};
+use pahyndoi::model::{Item, KEY_LENGTH, Set};
 
+use crate::device::header_length;
 use crate::honest::Honest;
 use crate::mishap;
 use crate::presentation::Presentation;
@@ -23,19 +24,20 @@ pub fn damaged(
 
 fn damage(random: &mut Random, honest: &mut Honest, other: &Honest) {
     let Honest {
+        set,
         presentation,
         items,
     } = honest;
     match random.up_to(11) {
         0 => flip_bit(random, &mut presentation.seal_file),
-        1 => flip_in_logs(random, presentation),
+        1 => flip_in_logs(random, *set, presentation),
         2 => damage_device_store(random, presentation),
         3 => damage_auditor_store(random, presentation),
         4 => damage_both_headers(random, presentation),
-        5 | 6 => damage_lengths(random, &mut presentation.length_bytes),
-        7 => cut_seal_file(random, presentation, items),
-        8 => lengthen_seal_file(random, presentation, items),
-        9 => mishap::resize_logs(random, &mut presentation.log_memory),
+        5 | 6 => damage_lengths(random, *set, &mut presentation.length_bytes),
+        7 => cut_seal_file(random, *set, presentation, items),
+        8 => lengthen_seal_file(random, *set, presentation, items),
+        9 => mishap::resize_logs(random, *set, &mut presentation.log_memory),
         _ => {
             damage_items(random, items, &other.items);
             presentation.seal_file = items.iter().flat_map(Item::to_bytes).collect();
@@ -50,25 +52,27 @@ fn flip_bit(random: &mut Random, bytes: &mut [u8]) {
 }
 
 /// Mostly within a phase's length, where the data are.
-fn flip_in_logs(random: &mut Random, presentation: &mut Presentation) {
+fn flip_in_logs(random: &mut Random, set: Set, presentation: &mut Presentation) {
     let phase = random.index(presentation.length_bytes.len().max(4) / 4);
-    let log = presentation.log_memory.chunks_mut(LOG_CAPACITY).nth(phase);
+    let capacity = set.log_capacity as usize;
+    let log = presentation.log_memory.chunks_mut(capacity).nth(phase);
     let Some(log) = log else {
         return;
     };
-    let near = random.pick(&[4, 60, 600, LOG_CAPACITY]).min(log.len());
+    let near = random.pick(&[4, 60, 600, capacity]).min(log.len());
     flip_bit(random, &mut log[..near]);
 }
 
 /// Chunks burned too many or rolled back to the auditor's, or any mishap.
 fn damage_device_store(random: &mut Random, presentation: &mut Presentation) {
     let store = &mut presentation.device_store;
-    if store.len() < 18 || store.len() != presentation.auditor_store.len() {
+    let first = header_length(store);
+    if store.len() < first || store.len() != presentation.auditor_store.len() {
         return;
     }
-    let start = 18 + 32 * random.up_to((store.len() - 18) / 32);
+    let start = first + KEY_LENGTH * random.up_to((store.len() - first) / KEY_LENGTH);
     match random.up_to(6) {
-        0 => store[18..start].fill(0),
+        0 => store[first..start].fill(0),
         1 => store[start..].copy_from_slice(&presentation.auditor_store[start..]),
         2 => store.copy_from_slice(&presentation.auditor_store),
         3 => mishap::resize_store(random, store),
@@ -80,7 +84,7 @@ fn damage_device_store(random: &mut Random, presentation: &mut Presentation) {
 
 fn damage_auditor_store(random: &mut Random, presentation: &mut Presentation) {
     let store = &mut presentation.auditor_store;
-    if store.len() < 50 {
+    if store.len() < header_length(store) + KEY_LENGTH {
         return;
     }
     match random.up_to(5) {
@@ -94,7 +98,8 @@ fn damage_auditor_store(random: &mut Random, presentation: &mut Presentation) {
 
 /// The same bit of both headers.
 fn damage_both_headers(random: &mut Random, presentation: &mut Presentation) {
-    let (index, bit) = (random.up_to(17), 1 << random.up_to(7));
+    let length = header_length(&presentation.device_store);
+    let (index, bit) = (random.index(length), 1 << random.up_to(7));
     for store in [
         &mut presentation.device_store,
         &mut presentation.auditor_store,
@@ -106,7 +111,7 @@ fn damage_both_headers(random: &mut Random, presentation: &mut Presentation) {
 }
 
 /// Another number of bytes, or another length for one phase.
-fn damage_lengths(random: &mut Random, bytes: &mut Vec<u8>) {
+fn damage_lengths(random: &mut Random, set: Set, bytes: &mut Vec<u8>) {
     let count = bytes.len();
     match random.up_to(7) {
         0 => bytes.resize(count + random.pick(&[1, 2, 3, 4, 5, 32]), 0),
@@ -121,7 +126,7 @@ fn damage_lengths(random: &mut Random, bytes: &mut Vec<u8>) {
             let new = match choice {
                 4 => length.wrapping_add(1),
                 5 => length.wrapping_sub(1),
-                _ => random.pick(&[0, 8192, 8193, u32::MAX]),
+                _ => random.pick(&[0, set.log_capacity, set.log_capacity + 1, u32::MAX]),
             };
             place.copy_from_slice(&new.to_le_bytes());
         }
@@ -129,24 +134,31 @@ fn damage_lengths(random: &mut Random, bytes: &mut Vec<u8>) {
 }
 
 /// Behind an item, behind one byte of it, before its tag or anywhere.
-fn cut_seal_file(random: &mut Random, presentation: &mut Presentation, items: &[Item]) {
+fn cut_seal_file(random: &mut Random, set: Set, presentation: &mut Presentation, items: &[Item]) {
     let kept = &items[..random.up_to(items.len())];
     let start: usize = kept.iter().map(Item::byte_count).sum();
+    let (entry, filler) = (set.entry_length(), set.filler_length());
+    let more = [1, 8, 9, 17, 18, filler - 1, filler, filler + 1, entry - 1];
     let length = match random.up_to(3) {
         0 | 1 => start,
-        2 => start + random.pick(&[1, 8, 9, 17, 18, 40, 41, 42, 49]),
+        2 => start + random.pick(&more),
         _ => random.up_to(presentation.seal_file.len()),
     };
     presentation.seal_file.truncate(length);
 }
 
 /// Bytes behind the last item: any, the front of an item, or a whole one.
-fn lengthen_seal_file(random: &mut Random, presentation: &mut Presentation, items: &[Item]) {
+fn lengthen_seal_file(
+    random: &mut Random,
+    set: Set,
+    presentation: &mut Presentation,
+    items: &[Item],
+) {
     let length = random.between(1, 60);
     let mut bytes = match random.up_to(2) {
         0 => random.bytes(length),
         1 => vec![0; length],
-        _ if items.is_empty() => vec![3; 41],
+        _ if items.is_empty() => vec![3; set.filler_length()],
         _ => items[random.index(items.len())].to_bytes(),
     };
     if random.once_in(2) {

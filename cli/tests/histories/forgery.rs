@@ -1,29 +1,38 @@
 //! Material made by somebody who knows every key: whatever the items say, the
 //! tags are right.
 
-use pahyndoi::model::{Head, Header, Position, chunk, next_key, plain_hmac, position};
+use pahyndoi::model::{
+    Head, Header, Item, KEY_LENGTH, Position, Set, chunk, next_key, plain_hmac, position,
+};
 
 use crate::areas::{Area, random_areas, spoil};
-use crate::device::Shape;
+use crate::device::{Shape, front};
 use crate::presentation::{Presentation, length_bytes};
 use crate::random::Random;
+use crate::sets::in_effect;
 
-pub fn random_forgery(random: &mut Random) -> Presentation {
+pub fn random_forgery(random: &mut Random, own_set: Option<Set>) -> Presentation {
     let phases = random.pick(&[1, 1, 2, 2, 3, 8]);
-    let (mut lengths, mut areas) = random_areas(random, phases);
+    let set = in_effect(own_set);
+    let (mut lengths, mut areas) = random_areas(random, set, phases);
     for _ in 0..random.pick(&[0, 0, 1, 1, 2]) {
-        spoil(random, &mut areas, phases);
+        spoil(random, set, &mut areas, phases);
     }
     if random.once_in(12) {
         let length = &mut lengths[random.index(phases)];
         *length = length.wrapping_add_signed(random.pick(&[1, -1, 40]));
     }
-    forge(random, &lengths, areas)
+    forge(random, own_set, &lengths, areas)
 }
 
 /// Seals the areas, filled up to whole chunks; now and then the items are too
 /// many or too few, or one has another place.
-fn forge(random: &mut Random, lengths: &[u32], mut areas: Vec<Option<Area>>) -> Presentation {
+fn forge(
+    random: &mut Random,
+    own_set: Option<Set>,
+    lengths: &[u32],
+    mut areas: Vec<Option<Area>>,
+) -> Presentation {
     let ratchet = match random.once_in(40) {
         true => 256,
         false => random.pick(&[1, 1, 2, 3, 5, 16]),
@@ -32,17 +41,39 @@ fn forge(random: &mut Random, lengths: &[u32], mut areas: Vec<Option<Area>>) -> 
     areas.resize(burned * ratchet, None);
     alter_count(random, &mut areas, &mut burned);
     let mut heads = heads(&areas, ratchet as u32);
-    let claimed = alter_position(random, &mut heads, ratchet as u32);
-    let mut forger = Forger::new(random, burned, ratchet, lengths);
-    forger.seal_all(&heads, claimed);
-    forger.presentation
+    let shape = shape(random, own_set, burned, ratchet, lengths);
+    let claimed = alter_position(random, &mut heads, &shape);
+    let forger = Forger::new(random, &shape, burned, lengths);
+    forger.present(&forger.seal_all(&heads, claimed))
 }
 
 /// Seals the areas in their places, each chunk for one item.
-pub fn seal_areas(random: &mut Random, lengths: &[u32], areas: &[Option<Area>]) -> Presentation {
-    let mut forger = Forger::new(random, areas.len(), 1, lengths);
-    forger.seal_all(&heads(areas, 1), false);
-    forger.presentation
+pub fn seal_areas(
+    random: &mut Random,
+    own_set: Option<Set>,
+    lengths: &[u32],
+    areas: &[Option<Area>],
+) -> Presentation {
+    let shape = shape(random, own_set, areas.len(), 1, lengths);
+    let forger = Forger::new(random, &shape, areas.len(), lengths);
+    forger.present(&forger.seal_all(&heads(areas, 1), false))
+}
+
+/// A store with this many burned chunks, sometimes with others behind them.
+fn shape(
+    random: &mut Random,
+    own_set: Option<Set>,
+    burned: usize,
+    ratchet: usize,
+    lengths: &[u32],
+) -> Shape {
+    Shape {
+        own_set,
+        phases: lengths.len(),
+        chunk_count: (burned + random.up_to(2)).clamp(1, 1024),
+        ratchet,
+        seal_memory: 0,
+    }
 }
 
 fn alter_count(random: &mut Random, areas: &mut Vec<Option<Area>>, burned: &mut usize) {
@@ -73,10 +104,11 @@ fn heads(areas: &[Option<Area>], ratchet: u32) -> Vec<Head> {
 /// Now and then gives one item another place: a neighbour's, its own with both
 /// numbers exchanged, or the byte offset of its chunk. Answers whether its key
 /// is that of the claimed place.
-fn alter_position(random: &mut Random, heads: &mut [Head], ratchet: u32) -> bool {
+fn alter_position(random: &mut Random, heads: &mut [Head], shape: &Shape) -> bool {
     if heads.is_empty() || !random.once_in(8) {
         return false;
     }
+    let ratchet = shape.ratchet as u32;
     let head = random.index(heads.len());
     let (Head::Entry { position, .. } | Head::Filler { position }) = &mut heads[head];
     let Position { chunk, offset } = *position;
@@ -87,7 +119,7 @@ fn alter_position(random: &mut Random, heads: &mut [Head], ratchet: u32) -> bool
             offset: chunk,
         },
         2 => Position {
-            chunk: 18 + 32 * chunk,
+            chunk: shape.header_length() as u32 + 32 * chunk,
             offset,
         },
         3 => Position {
@@ -109,24 +141,17 @@ fn alter_position(random: &mut Random, heads: &mut [Head], ratchet: u32) -> bool
 struct Forger {
     presentation: Presentation,
     /// The key of each number that the store has one for.
-    keys: Vec<[u8; 32]>,
+    keys: Vec<[u8; KEY_LENGTH]>,
     header: Header,
 }
 
 impl Forger {
-    /// A store with this many burned chunks, sometimes with others behind them.
-    fn new(random: &mut Random, burned: usize, ratchet: usize, lengths: &[u32]) -> Forger {
-        let shape = Shape {
-            phases: lengths.len(),
-            chunk_count: (burned + random.up_to(2)).clamp(1, 1024),
-            ratchet,
-            seal_memory: 0,
-        };
+    fn new(random: &mut Random, shape: &Shape, burned: usize, lengths: &[u32]) -> Forger {
         let material = shape.material(random);
         let mut device_store = material.store.clone();
-        device_store[18..18 + 32 * burned.min(shape.chunk_count)].fill(0);
+        front(&mut device_store, burned.min(shape.chunk_count)).fill(0);
         Forger {
-            keys: all_keys(&material.store, &shape),
+            keys: all_keys(&material.store, shape),
             header: Header::parse(&material.store).expect("a store"),
             presentation: Presentation {
                 device_store,
@@ -139,17 +164,24 @@ impl Forger {
     }
 
     /// Each item under the key of its number, or of the place it claims.
-    fn seal_all(&mut self, heads: &[Head], claimed: bool) {
+    fn seal_all(&self, heads: &[Head], claimed: bool) -> Vec<Item> {
         let ratchet = self.header.ratchet;
-        for (number, head) in heads.iter().enumerate() {
+        let seal = |(number, head): (usize, &Head)| {
             let place = head.position();
             let index = match claimed && place.offset < ratchet && place.chunk < 1024 {
                 true => place.item_number(ratchet) as usize,
                 false => number,
             };
-            let key = self.keys.get(index).unwrap_or(&[0; 32]);
-            let item = head.seal(self.header.set(), plain_hmac, key, self.data(head));
-            self.presentation.seal_file.extend(item.to_bytes());
+            let key = self.keys.get(index).unwrap_or(&[0; KEY_LENGTH]);
+            head.seal(self.header.set(), plain_hmac, key, self.data(head))
+        };
+        heads.iter().enumerate().map(seal).collect()
+    }
+
+    fn present(&self, items: &[Item]) -> Presentation {
+        Presentation {
+            seal_file: items.iter().flat_map(Item::to_bytes).collect(),
+            ..self.presentation.clone()
         }
     }
 
@@ -170,9 +202,9 @@ impl Forger {
     }
 }
 
-fn all_keys(store: &[u8], shape: &Shape) -> Vec<[u8; 32]> {
+fn all_keys(store: &[u8], shape: &Shape) -> Vec<[u8; KEY_LENGTH]> {
     let ratchet = shape.ratchet as u32;
-    let mut keys: Vec<[u8; 32]> = Vec::new();
+    let mut keys: Vec<[u8; KEY_LENGTH]> = Vec::new();
     for number in 0..shape.chunk_count as u32 * ratchet {
         let place = position(number, ratchet);
         let key = match (place.offset, keys.last()) {

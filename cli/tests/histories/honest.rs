@@ -1,6 +1,6 @@
 //! What a controller left that kept to the rules.
 
-use pahyndoi::model::{Account, Call, Item, Material, plain_hmac};
+use pahyndoi::model::{Account, Call, Item, Material, Set, plain_hmac};
 
 use crate::device::Shape;
 use crate::presentation::{Presentation, length_bytes};
@@ -9,13 +9,15 @@ use crate::random::Random;
 /// A history's material, with its items apart.
 #[derive(Clone)]
 pub struct Honest {
+    pub set: Set,
     pub presentation: Presentation,
     pub items: Vec<Item>,
 }
 
 /// Counts that leave every damage something to alter.
-pub fn random_shape(random: &mut Random) -> Shape {
+pub fn random_shape(random: &mut Random, own_set: Option<Set>) -> Shape {
     Shape {
+        own_set,
         phases: random.pick(&[1, 1, 2, 2, 3, 8]),
         chunk_count: random.between(1, 12),
         ratchet: random.pick(&[1, 1, 2, 3, 4, 7, 16]),
@@ -25,38 +27,40 @@ pub fn random_shape(random: &mut Random) -> Shape {
 
 /// Two histories of one store with different data; the second is what a
 /// forger might mix into the first.
-pub fn random_pair(random: &mut Random) -> (Honest, Honest) {
-    let shape = random_shape(random);
+pub fn random_pair(random: &mut Random, own_set: Option<Set>) -> (Honest, Honest) {
+    let shape = random_shape(random, own_set);
     let mut start = shape.material(random);
-    start.seal_memory = vec![0; 50 * shape.chunk_count * shape.ratchet];
-    let count = random.up_to(shape.chunk_count * shape.ratchet);
-    let first = random_history(random, &start, shape.phases, count);
-    (first, random_history(random, &start, shape.phases, count))
+    let items = shape.chunk_count * shape.ratchet;
+    start.seal_memory = vec![0; shape.set().entry_length() * items];
+    let count = random.up_to(items);
+    let first = random_history(random, &start, &shape, count);
+    (first, random_history(random, &start, &shape, count))
 }
 
 /// This many appends, or until the keys are spent, some closes among them and
 /// mostly one at the end.
-fn random_history(random: &mut Random, start: &Material, phases: usize, count: usize) -> Honest {
+fn random_history(random: &mut Random, start: &Material, shape: &Shape, count: usize) -> Honest {
     let mut account = Account::start(start).expect("an unused store");
+    let longest = shape.set().data_limit as usize;
     for _ in 0..count {
         if random.once_in(12) {
             account.call(plain_hmac, &Call::Close);
         }
-        let length = random.pick(&[1, 2, 7, 16, 30, 46, 47, 110, 512]);
+        let length = random.pick(&[1, 2, 7, 16, 30, 46, 47, 110, longest]);
         let call = Call::Append {
-            phase: random.between(1, phases) as u8,
-            data: random.bytes(length),
+            phase: random.between(1, shape.phases) as u8,
+            data: random.bytes(length.min(longest)),
         };
         account.call(plain_hmac, &call);
     }
     if !random.once_in(10) {
         account.call(plain_hmac, &Call::Close);
     }
-    of_account(start, &account)
+    of_account(start, shape.set(), &account)
 }
 
 /// Untouched material.
-pub fn of_account(start: &Material, account: &Account) -> Honest {
+pub fn of_account(start: &Material, set: Set, account: &Account) -> Honest {
     let left = account.material();
     let presentation = Presentation {
         device_store: left.store,
@@ -66,6 +70,7 @@ pub fn of_account(start: &Material, account: &Account) -> Honest {
         seal_file: account.seal_file(),
     };
     Honest {
+        set,
         presentation,
         items: account.items().to_vec(),
     }

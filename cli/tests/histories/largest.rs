@@ -20,6 +20,7 @@ const ENTRIES_IN_A_CHUNK: usize = 64;
 pub fn material(random: &mut Random) -> Presentation {
     let entries = CHUNK_COUNT * ENTRIES_IN_A_CHUNK;
     let shape = Shape {
+        own_set: None,
         phases: 8,
         chunk_count: CHUNK_COUNT,
         ratchet: RATCHET,

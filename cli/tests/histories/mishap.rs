@@ -1,17 +1,18 @@
 //! What can befall a device between two calls: another store, memories of
 //! another length, a state that does not fit.
 
-use pahyndoi::model::LOG_CAPACITY;
+use pahyndoi::model::{KEY_LENGTH, Set};
 
-use crate::device::Device;
+use crate::device::{Device, header_length};
 use crate::random::Random;
 
 pub fn strike(random: &mut Random, device: &mut Device) {
+    let set = device.set();
     match random.up_to(9) {
         0 => resize_store(random, &mut device.material.store),
         1 => alter_header(random, &mut device.material.store),
         2 | 3 => alter_chunk(random, &mut device.material.store),
-        4 => resize_logs(random, &mut device.material.log_memory),
+        4 => resize_logs(random, set, &mut device.material.log_memory),
         5 => resize_seal_memory(random, device),
         6 => alter_position(random, device),
         7 => alter_lengths(random, device),
@@ -28,7 +29,7 @@ pub fn resize_store(random: &mut Random, store: &mut Vec<u8>) {
         1 => length + 1,
         2 => length + 32,
         3 => length.saturating_sub(32),
-        4 => random.pick(&[0, 1, 17, 18, 19]),
+        4 => random.pick(&[0, 1, 17, 18, 19, 26, 27, 28]),
         _ => random.up_to(length),
     };
     store.resize(new, random.next() as u8);
@@ -36,12 +37,13 @@ pub fn resize_store(random: &mut Random, store: &mut Vec<u8>) {
 
 /// The kind, the phases, a count, or a single bit. The store has a header.
 pub fn alter_header(random: &mut Random, store: &mut [u8]) {
+    let length = header_length(store);
     match random.up_to(4) {
-        0 => store[0] = random.pick(&[0, 2, 3, 255]),
+        0 => store[0] = random.pick(&[0, 1, 2, 3, 5, 6, 7, 255]),
         1 => store[9] = random.pick(&[0, 1, 2, 8, 9, 255]),
         2 => write_number(store, 10, random.pick(&[0, 1, 2, 1024, 1025, u32::MAX])),
         3 => write_number(store, 14, random.pick(&[0, 1, 2, 256, 257, u32::MAX])),
-        _ => store[random.up_to(17)] ^= 1 << random.up_to(7),
+        _ => store[random.index(length)] ^= 1 << random.up_to(7),
     }
 }
 
@@ -51,12 +53,13 @@ fn write_number(bytes: &mut [u8], index: usize, number: u32) {
 
 /// Burns a chunk, all of it or all but one byte, or writes it anew.
 pub fn alter_chunk(random: &mut Random, store: &mut [u8]) {
-    let count = store.len().saturating_sub(18) / 32;
+    let first = header_length(store);
+    let count = store.len().saturating_sub(first) / KEY_LENGTH;
     if count == 0 {
         return;
     }
-    let start = 18 + 32 * random.index(count);
-    let chunk = &mut store[start..start + 32];
+    let start = first + KEY_LENGTH * random.index(count);
+    let chunk = &mut store[start..start + KEY_LENGTH];
     match random.up_to(3) {
         0 => chunk.copy_from_slice(&random.bytes(32)),
         1 => {
@@ -67,23 +70,28 @@ pub fn alter_chunk(random: &mut Random, store: &mut [u8]) {
     }
 }
 
-pub fn resize_logs(random: &mut Random, log_memory: &mut Vec<u8>) {
+pub fn resize_logs(random: &mut Random, set: Set, log_memory: &mut Vec<u8>) {
     let length = log_memory.len();
+    let capacity = set.log_capacity as usize;
     let new = match random.up_to(4) {
         0 => length.saturating_sub(1),
         1 => length + 1,
-        2 => length + LOG_CAPACITY,
-        3 => length.saturating_sub(LOG_CAPACITY),
+        2 => length + capacity,
+        3 => length.saturating_sub(capacity),
         _ => 0,
     };
     log_memory.resize(new, 0xee);
 }
 
-/// So that about one item, or no byte, is free behind the seal file.
+/// So that about one item, no byte, or as much as a close needs is free behind
+/// the seal file.
 fn resize_seal_memory(random: &mut Random, device: &mut Device) {
     let used = device.state.seal_length.min(1 << 16) as usize;
+    let (entry, filler) = (device.set().entry_length(), device.set().filler_length());
+    let due = device.fillers_due() * filler;
+    let wanted = random.pick(&[0, filler, entry, 2 * filler, due, due]);
     let new = match random.up_to(2) {
-        0 => used + random.pick(&[0, 40, 41, 42, 49, 50, 51, 81, 82, 83]),
+        0 => used + (wanted + random.up_to(2)).saturating_sub(1),
         1 => used.saturating_sub(1),
         _ => used + random.up_to(600),
     };
@@ -108,17 +116,25 @@ fn alter_position(random: &mut Random, device: &mut Device) {
 }
 
 fn alter_lengths(random: &mut Random, device: &mut Device) {
-    let length = random.pick(&[0, 1, 8190, 8191, 8192, 8193, 1 << 16, u32::MAX]);
+    let Set { log_capacity, .. } = device.set();
+    let near = log_capacity - 2 + random.up_to(3) as u32;
+    let length = random.pick(&[0, 1, near, near, near, near, 1 << 16, u32::MAX]);
     device.state.log_lengths[random.up_to(7)] = length;
 }
 
 fn alter_seal_length(random: &mut Random, device: &mut Device) {
     let end = device.material.seal_memory.len() as u64;
+    let entry = device.set().entry_length() as u64;
+    let filler = device.set().filler_length() as u64;
+    let due = device.fillers_due() as u64 * filler;
     device.state.seal_length = match random.up_to(4) {
         0 => end,
         1 => end + 1,
-        2 => random.pick(&[u64::MAX, u64::MAX - 49, 1 << 32, (1 << 32) + end]),
-        3 => end.saturating_sub(random.pick(&[40, 41, 49, 50, 51])),
+        2 => random.pick(&[u64::MAX, u64::MAX - entry + 1, 1 << 32, (1 << 32) + end]),
+        3 => {
+            let free = random.pick(&[filler, entry, due]) + random.up_to(2) as u64;
+            end.saturating_sub(free.saturating_sub(1))
+        }
         _ => random.up_to(end as usize) as u64,
     };
 }

@@ -34,12 +34,12 @@ pub fn entries(set: Set, seal_file: &[u8]) -> Vec<(u32, Area)> {
 pub fn random_places(random: &mut Random, presentation: &Presentation) -> Vec<Place> {
     let lengths = log_lengths(&presentation.length_bytes);
     let phases = presentation.device_store.get(9).copied().unwrap_or(8);
-    let mut places = vec![
-        anywhere(random, phases),
-        at_edge_of_log(random, phases, &lengths),
-    ];
     let header = Header::parse(&presentation.device_store);
     let set = header.map_or(Set::COMMON, |header| header.set());
+    let mut places = vec![
+        anywhere(random, phases),
+        at_edge_of_log(random, set, phases, &lengths),
+    ];
     let entries = entries(set, &presentation.seal_file);
     if !entries.is_empty() {
         let (_, area) = random.pick(&entries);
@@ -54,13 +54,13 @@ fn anywhere(random: &mut Random, phases: u8) -> Place {
         true => random.up_to(255),
         false => random.up_to(usize::from(phases)),
     };
-    let most = random.pick(&[3, 40, 600, 9000, u32::MAX as usize]);
+    let most = random.pick(&[3, 40, 600, 9000, 70_000, u32::MAX as usize]);
     (phase as u8, random.up_to(most) as u32)
 }
 
 /// Phases from 0 to one too many; offsets around the phase's length and the
 /// end of its log, and huge ones that lose their high bits in 16.
-fn at_edge_of_log(random: &mut Random, phases: u8, lengths: &[u32]) -> Place {
+fn at_edge_of_log(random: &mut Random, set: Set, phases: u8, lengths: &[u32]) -> Place {
     let phase = match random.up_to(7) {
         0 => 0,
         1 => phases.wrapping_add(1),
@@ -71,12 +71,13 @@ fn at_edge_of_log(random: &mut Random, phases: u8, lengths: &[u32]) -> Place {
     let index = usize::from(phase).wrapping_sub(1);
     let length = lengths.get(index).copied().unwrap_or(0);
     let before = length.wrapping_sub(1);
+    let capacity = set.log_capacity;
     let offset = match random.up_to(9) {
         0 => 0,
         1..=3 => before,
         4..=6 => length,
         7 => length.wrapping_add(1),
-        8 => random.pick(&[8191, 8192, u32::MAX - 1, u32::MAX]),
+        8 => random.pick(&[capacity - 1, capacity, u32::MAX - 1, u32::MAX]),
         _ => before | random.pick(&[1 << 16, 1 << 24, 1 << 31]),
     };
     (phase, offset)

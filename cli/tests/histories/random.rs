@@ -3,9 +3,13 @@
 
 use std::env;
 
+use pahyndoi::model::Set;
+
+use crate::sets;
+
 const SEED: u64 = 0x5ea1_ed10_65a5_1234;
 
-/// The seed of the run, and how many cases of each kind it tries.
+/// The seed of the run, and how many cases it tries with stores of each kind.
 #[derive(Clone, Copy)]
 pub struct Run {
     pub seed: u64,
@@ -28,11 +32,31 @@ impl Run {
         }
     }
 
+    /// The cases with a store of kind 1 and those of kind 6, in turns.
+    pub fn each(&self) -> impl Iterator<Item = Case> {
+        let numbers = 0..self.cases;
+        numbers.flat_map(|number| [self.case(number), self.case_with_set(number)])
+    }
+
+    /// With a store of kind 1.
     pub fn case(&self, number: usize) -> Case {
         Case {
             seed: self.seed,
             number,
+            own_set: None,
             random: Random::new(self.seed, number),
+            step: String::new(),
+        }
+    }
+
+    /// With a store of kind 6: the first ones have the corners.
+    fn case_with_set(&self, number: usize) -> Case {
+        let mut random = Random::new(!self.seed, number);
+        Case {
+            seed: self.seed,
+            number,
+            own_set: Some(sets::nth(&mut random, number)),
+            random,
             step: String::new(),
         }
     }
@@ -52,6 +76,8 @@ fn number(name: &str) -> Option<u64> {
 pub struct Case {
     seed: u64,
     number: usize,
+    /// What a store of kind 6 names; none in cases with one of kind 1.
+    pub own_set: Option<Set>,
     pub random: Random,
     /// What is being tried.
     pub step: String,
@@ -61,9 +87,13 @@ impl Drop for Case {
     fn drop(&mut self) {
         if std::thread::panicking() {
             let Case {
-                seed, number, step, ..
+                seed,
+                number,
+                own_set,
+                step,
+                ..
             } = self;
-            eprintln!("PAHYNDOI_SEED={seed:#018x}, case {number}, {step}");
+            eprintln!("PAHYNDOI_SEED={seed:#018x}, case {number}, {own_set:?}, {step}");
         }
     }
 }

@@ -1,20 +1,42 @@
 //! Random calls, good and bad.
 
-use pahyndoi::model::{Call, LOG_CAPACITY};
+use pahyndoi::model::{Call, Set};
 
 use crate::device::Device;
 use crate::random::Random;
 
-/// Lengths of data around their limits. The last ones lose their high bits in
-/// 16 and in 8.
-const DATA_LENGTHS: [usize; 9] = [0, 1, 2, 63, 511, 512, 513, 65_537, 256 * 256 * 2 + 16];
+/// Lengths of data around the limit of kind 1 and around the largest one. The
+/// last ones lose their high bits in 16 and in 8.
+const DATA_LENGTHS: [usize; 12] = [
+    0,
+    1,
+    2,
+    63,
+    511,
+    512,
+    513,
+    4095,
+    4096,
+    4097,
+    65_537,
+    256 * 256 * 2 + 16,
+];
 
+/// Where a close might just fill the seal memory, it is made often.
 pub fn random_call(random: &mut Random, device: &Device) -> Call {
     match random.up_to(9) {
+        0..=4 if is_nearly_full(device) => Call::Close,
         0..=6 => random_append(random, device),
         7 => Call::Close,
         _ => random_open(random, device),
     }
+}
+
+/// Whether the fillers due end within a byte of the seal memory's end.
+fn is_nearly_full(device: &Device) -> bool {
+    let due = (device.fillers_due() * device.set().filler_length()) as u64;
+    let filled = device.state.seal_length.saturating_add(due);
+    due > 0 && filled.abs_diff(device.material.seal_memory.len() as u64) <= 1
 }
 
 fn random_append(random: &mut Random, device: &Device) -> Call {
@@ -37,14 +59,16 @@ fn data_length(random: &mut Random, device: &Device, phase: usize) -> usize {
         1..=8 => device.state.log_lengths[phase - 1] as usize,
         _ => 0,
     };
-    let free = LOG_CAPACITY.saturating_sub(used);
+    let set = device.set();
+    let limit = set.data_limit as usize;
+    let free = (set.log_capacity as usize).saturating_sub(used);
     match random.up_to(15) {
         0 => random.pick(&DATA_LENGTHS),
-        1 => free.min(513),
-        2 => (free + 1).min(513),
-        3 | 4 => random.between(1, 512),
-        5..=7 => 512,
-        _ => random.between(1, 40),
+        1 => free.min(limit + 1),
+        2 => (free + 1).min(limit + 1),
+        3 | 4 => random.between(1, limit),
+        5..=7 => limit,
+        _ => random.between(1, limit.min(40)),
     }
 }
 
@@ -52,6 +76,7 @@ fn data_length(random: &mut Random, device: &Device, phase: usize) -> usize {
 /// large or other ones.
 fn random_open(random: &mut Random, device: &Device) -> Call {
     let phases = usize::from(device.header().map_or(8, |header| header.phases));
+    let Set { log_capacity, .. } = device.set();
     let mut log_lengths = device.state.log_lengths.to_vec();
     log_lengths.truncate(phases);
     match random.up_to(11) {
@@ -59,8 +84,11 @@ fn random_open(random: &mut Random, device: &Device) -> Call {
         1 => log_lengths.truncate(phases - 1),
         2 => log_lengths.clear(),
         3 => log_lengths.resize(random.up_to(20), 0),
-        4 => log_lengths[random.index(phases)] = random.pick(&[8193, u32::MAX, 1 << 16, 8192]),
-        5 => log_lengths.fill_with(|| random.up_to(LOG_CAPACITY) as u32),
+        4 => {
+            let lengths = [log_capacity + 1, u32::MAX, 1 << 16, log_capacity];
+            log_lengths[random.index(phases)] = random.pick(&lengths);
+        }
+        5 => log_lengths.fill_with(|| random.up_to(log_capacity as usize) as u32),
         _ => (),
     }
     Call::Open {

@@ -1,0 +1,61 @@
+//! The sets of parameters that stores have: corners of the range first, then
+//! any.
+
+use pahyndoi::model::Set;
+
+use crate::random::Random;
+
+/// Every corner of the range, the set that a store of kind 1 has too, and some
+/// next to corners.
+pub const CORNERS: [Set; 15] = [
+    Set::COMMON,
+    set(16, 1, 512),
+    set(16, 512, 512),
+    set(16, 4096, 4096),
+    set(32, 4096, 65_536),
+    set(31, 4095, 4096),
+    set(17, 2, 513),
+    set(16, 4096, 65_536),
+    set(32, 1, 65_536),
+    set(32, 1, 512),
+    set(32, 512, 512),
+    set(32, 4096, 4096),
+    set(16, 1, 65_536),
+    set(24, 511, 65_535),
+    set(16, 512, 8192),
+];
+
+pub const fn set(tag_length: u8, data_limit: u32, log_capacity: u32) -> Set {
+    Set {
+        tag_length,
+        data_limit,
+        log_capacity,
+    }
+}
+
+/// The parameters that hold: those of kind 1 where a store names none.
+pub fn in_effect(own_set: Option<Set>) -> Set {
+    own_set.unwrap_or(Set::COMMON)
+}
+
+/// The corner of this number; behind the last one any set.
+pub fn nth(random: &mut Random, number: usize) -> Set {
+    match CORNERS.get(number) {
+        Some(corner) => *corner,
+        None => any(random),
+    }
+}
+
+/// Any set in range, mostly with small logs, which take less time.
+pub fn any(random: &mut Random) -> Set {
+    let most = random.pick(&[512, 600, 1100, 4096, 4200, 8192, 8192, 65_536]);
+    let log_capacity = random.between(512, most);
+    let longest = log_capacity.min(4096);
+    let near = random.pick(&[2, 60, 600, longest]).min(longest);
+    let below = random.between(1, near);
+    set(
+        random.between(16, 32) as u8,
+        random.pick(&[longest, near, below]) as u32,
+        log_capacity as u32,
+    )
+}
