@@ -1,6 +1,6 @@
 //! Damage to honest material by somebody without keys.
 
-use pahyndoi::model::{Item, KEY_LENGTH, Set};
+use pahyndoi::model::{Header, Item, KEY_LENGTH, Set};
 
 use crate::device::header_length;
 use crate::honest::Honest;
@@ -28,7 +28,7 @@ fn damage(random: &mut Random, honest: &mut Honest, other: &Honest) {
         presentation,
         items,
     } = honest;
-    match random.up_to(11) {
+    match random.up_to(14) {
         0 => flip_bit(random, &mut presentation.seal_file),
         1 => flip_in_logs(random, *set, presentation),
         2 => damage_device_store(random, presentation),
@@ -38,6 +38,12 @@ fn damage(random: &mut Random, honest: &mut Honest, other: &Honest) {
         7 => cut_seal_file(random, *set, presentation, items),
         8 => lengthen_seal_file(random, *set, presentation, items),
         9 => mishap::resize_logs(random, *set, &mut presentation.log_memory),
+        10 => flip_at_end_of_item(random, presentation, items),
+        11 => exchange_sets(random, presentation),
+        12 => {
+            damage_tags(random, items);
+            presentation.seal_file = items.iter().flat_map(Item::to_bytes).collect();
+        }
         _ => {
             damage_items(random, items, &other.items);
             presentation.seal_file = items.iter().flat_map(Item::to_bytes).collect();
@@ -107,6 +113,67 @@ fn damage_both_headers(random: &mut Random, presentation: &mut Presentation) {
         if let Some(byte) = store.get_mut(index) {
             *byte ^= bit;
         }
+    }
+}
+
+/// Another set in one of the stores or the same in both, mostly with log memory
+/// for what the device's store then says.
+fn exchange_sets(random: &mut Random, presentation: &mut Presentation) {
+    let Presentation {
+        device_store: device,
+        auditor_store: auditor,
+        ..
+    } = presentation;
+    match random.up_to(2) {
+        0 => mishap::alter_set(random, device),
+        1 => mishap::alter_set(random, auditor),
+        _ => {
+            mishap::alter_set(random, auditor);
+            copy_header(auditor, device);
+        }
+    }
+    match Header::parse(device) {
+        Some(header) if !random.once_in(4) => {
+            let length = header.log_memory_length();
+            presentation.log_memory.resize(length, 0xee);
+        }
+        _ => (),
+    }
+}
+
+/// Exchanges the header of one store, if it is whole, for that of another.
+fn copy_header(from: &[u8], to: &mut Vec<u8>) {
+    let (old, new) = (header_length(to), header_length(from));
+    if let (Some(_), Some(header)) = (to.get(..old), from.get(..new)) {
+        to.splice(..old, header.iter().copied());
+    }
+}
+
+/// The last byte of an item or the one behind it, where the next one begins.
+fn flip_at_end_of_item(random: &mut Random, presentation: &mut Presentation, items: &[Item]) {
+    let before = &items[..random.up_to(items.len())];
+    let end: usize = before.iter().map(Item::byte_count).sum();
+    let index = end.saturating_sub(random.up_to(1));
+    if let Some(byte) = presentation.seal_file.get_mut(index) {
+        *byte ^= 1 << random.up_to(7);
+    }
+}
+
+/// Cuts or lengthens the tag of one item, or of all, as another set would.
+fn damage_tags(random: &mut Random, items: &mut [Item]) {
+    let Some(first) = items.first() else {
+        return;
+    };
+    let right = first.tag.len();
+    let any = random.between(16, 32);
+    let length = random.pick(&[right.saturating_sub(1), right + 1, 16, 32, any]);
+    let one = random.index(items.len());
+    let touched = match random.once_in(2) {
+        true => &mut items[one..=one],
+        false => items,
+    };
+    for item in touched {
+        item.tag.resize(length, random.next() as u8);
     }
 }
 

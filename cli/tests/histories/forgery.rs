@@ -2,7 +2,8 @@
 //! tags are right.
 
 use pahyndoi::model::{
-    Head, Header, Item, KEY_LENGTH, Position, Set, chunk, next_key, plain_hmac, position,
+    HMAC_LENGTH, Head, Header, Item, KEY_LENGTH, Position, Set, chunk, next_key, plain_hmac,
+    position,
 };
 
 use crate::areas::{Area, random_areas, spoil};
@@ -26,7 +27,7 @@ pub fn random_forgery(random: &mut Random, own_set: Option<Set>) -> Presentation
 }
 
 /// Seals the areas, filled up to whole chunks; now and then the items are too
-/// many or too few, or one has another place.
+/// many or too few, one has another place, or tags have another length.
 fn forge(
     random: &mut Random,
     own_set: Option<Set>,
@@ -44,7 +45,9 @@ fn forge(
     let shape = shape(random, own_set, burned, ratchet, lengths);
     let claimed = alter_position(random, &mut heads, &shape);
     let forger = Forger::new(random, &shape, burned, lengths);
-    forger.present(&forger.seal_all(&heads, claimed))
+    let mut items = forger.seal_all(&heads, claimed);
+    alter_tags(random, shape.set(), &mut items);
+    forger.present(&items)
 }
 
 /// Seals the areas in their places, each chunk for one item.
@@ -56,7 +59,10 @@ pub fn seal_areas(
 ) -> Presentation {
     let shape = shape(random, own_set, areas.len(), 1, lengths);
     let forger = Forger::new(random, &shape, areas.len(), lengths);
-    forger.present(&forger.seal_all(&heads(areas, 1), false))
+    let mut items = forger.seal_all(&heads(areas, 1), false);
+    let tags = vec![shape.set().tag_length.into(); areas.len()];
+    cut_tags(&mut items, &tags);
+    forger.present(&items)
 }
 
 /// A store with this many burned chunks, sometimes with others behind them.
@@ -73,6 +79,29 @@ fn shape(
         chunk_count: (burned + random.up_to(2)).clamp(1, 1024),
         ratchet,
         seal_memory: 0,
+    }
+}
+
+/// Cuts whole tags as the set says; now and then one of them, or all, as
+/// another set would.
+fn alter_tags(random: &mut Random, set: Set, items: &mut [Item]) {
+    let right = usize::from(set.tag_length);
+    let mut lengths = vec![right; items.len()];
+    if !items.is_empty() && random.once_in(16) {
+        let any = random.between(16, 32);
+        let other = random.pick(&[right - 1, right + 1, 16, 32, any]);
+        match random.once_in(2) {
+            true => lengths.fill(other),
+            false => lengths[random.index(items.len())] = other,
+        }
+    }
+    cut_tags(items, &lengths);
+}
+
+/// Behind the whole tag stand zeros.
+fn cut_tags(items: &mut [Item], lengths: &[usize]) {
+    for (item, length) in items.iter_mut().zip(lengths) {
+        item.tag.resize(*length, 0);
     }
 }
 
@@ -163,9 +192,14 @@ impl Forger {
         }
     }
 
-    /// Each item under the key of its number, or of the place it claims.
+    /// Each item under the key of its number, or of the place it claims, with
+    /// its whole tag.
     fn seal_all(&self, heads: &[Head], claimed: bool) -> Vec<Item> {
         let ratchet = self.header.ratchet;
+        let whole = Set {
+            tag_length: HMAC_LENGTH as u8,
+            ..self.header.set()
+        };
         let seal = |(number, head): (usize, &Head)| {
             let place = head.position();
             let index = match claimed && place.offset < ratchet && place.chunk < 1024 {
@@ -173,16 +207,14 @@ impl Forger {
                 false => number,
             };
             let key = self.keys.get(index).unwrap_or(&[0; KEY_LENGTH]);
-            head.seal(self.header.set(), plain_hmac, key, self.data(head))
+            head.seal(whole, plain_hmac, key, self.data(head))
         };
         heads.iter().enumerate().map(seal).collect()
     }
 
-    fn present(&self, items: &[Item]) -> Presentation {
-        Presentation {
-            seal_file: items.iter().flat_map(Item::to_bytes).collect(),
-            ..self.presentation.clone()
-        }
+    fn present(mut self, items: &[Item]) -> Presentation {
+        self.presentation.seal_file = items.iter().flat_map(Item::to_bytes).collect();
+        self.presentation
     }
 
     /// The data in the area; none where it leaves the memory.

@@ -1,14 +1,15 @@
 //! What can befall a device between two calls: another store, memories of
 //! another length, a state that does not fit.
 
-use pahyndoi::model::{KEY_LENGTH, Set};
+use pahyndoi::model::{Header, KEY_LENGTH, Set};
 
 use crate::device::{Device, header_length};
 use crate::random::Random;
+use crate::sets;
 
 pub fn strike(random: &mut Random, device: &mut Device) {
     let set = device.set();
-    match random.up_to(9) {
+    match random.up_to(10) {
         0 => resize_store(random, &mut device.material.store),
         1 => alter_header(random, &mut device.material.store),
         2 | 3 => alter_chunk(random, &mut device.material.store),
@@ -17,6 +18,7 @@ pub fn strike(random: &mut Random, device: &mut Device) {
         6 => alter_position(random, device),
         7 => alter_lengths(random, device),
         8 => alter_seal_length(random, device),
+        9 => exchange_set(random, device),
         _ => device.state.held_key = random.bytes(32).try_into().expect("32 bytes"),
     }
 }
@@ -45,6 +47,29 @@ pub fn alter_header(random: &mut Random, store: &mut [u8]) {
         3 => write_number(store, 14, random.pick(&[0, 1, 2, 256, 257, u32::MAX])),
         _ => store[random.index(length)] ^= 1 << random.up_to(7),
     }
+}
+
+/// Gives a well-formed store another set, in range or not, or makes it one of
+/// the other kind. The chunks stay.
+pub fn alter_set(random: &mut Random, store: &mut Vec<u8>) {
+    let Some(header) = Header::parse(store) else {
+        return;
+    };
+    let set = header.set();
+    let own_set = match (random.up_to(3), header.own_set) {
+        (0, Some(_)) => None,
+        (0, None) => Some(set),
+        (1, _) => Some(sets::beyond(random, set)),
+        _ => Some(sets::other(random, set)),
+    };
+    put_set(store, own_set);
+}
+
+/// Exchanges the set of a well-formed store for this one.
+pub fn put_set(store: &mut Vec<u8>, own_set: Option<Set>) {
+    let header = Header::parse(store).expect("a store");
+    let new = Header { own_set, ..header };
+    store.splice(..header.length(), new.to_bytes());
 }
 
 fn write_number(bytes: &mut [u8], index: usize, number: u32) {
@@ -81,6 +106,18 @@ pub fn resize_logs(random: &mut Random, set: Set, log_memory: &mut Vec<u8>) {
         _ => 0,
     };
     log_memory.resize(new, 0xee);
+}
+
+/// Another set in the store, mostly with log memory for it.
+fn exchange_set(random: &mut Random, device: &mut Device) {
+    alter_set(random, &mut device.material.store);
+    match device.header() {
+        Some(header) if !random.once_in(4) => {
+            let length = header.log_memory_length();
+            device.material.log_memory.resize(length, 0xee);
+        }
+        _ => (),
+    }
 }
 
 /// So that about one item, no byte, or as much as a close needs is free behind

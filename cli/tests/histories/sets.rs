@@ -59,3 +59,54 @@ pub fn any(random: &mut Random) -> Set {
         log_capacity as u32,
     )
 }
+
+/// A set in range that has some of this one's parameters, mostly not all.
+pub fn other(random: &mut Random, own: Set) -> Set {
+    let any = any(random);
+    match random.up_to(5) {
+        0 => set(any.tag_length, own.data_limit, own.log_capacity),
+        1 => {
+            let data_limit = any.data_limit.min(own.log_capacity);
+            set(own.tag_length, data_limit, own.log_capacity)
+        }
+        2 => {
+            let log_capacity = any.log_capacity.max(own.data_limit);
+            set(own.tag_length, own.data_limit, log_capacity)
+        }
+        3 => set(own.tag_length, any.data_limit, any.log_capacity),
+        4 => random.pick(&CORNERS),
+        _ => any,
+    }
+}
+
+/// This set with one parameter out of range, mostly by one, or with a log
+/// capacity below the data limit.
+pub fn beyond(random: &mut Random, own: Set) -> Set {
+    let Set {
+        data_limit,
+        log_capacity,
+        ..
+    } = own;
+    match random.up_to(4) {
+        0 => Set {
+            tag_length: random.pick(&[0, 15, 15, 33, 33, 255]),
+            ..own
+        },
+        1 => Set {
+            data_limit: random.pick(&[0, 0, 4097, 4097, 1 << 16, u32::MAX]),
+            ..own
+        },
+        2 => Set {
+            log_capacity: random.pick(&[0, 511, 511, 65_537, 65_537, 1 << 24, u32::MAX]),
+            ..own
+        },
+        3 => Set {
+            data_limit: log_capacity + 1,
+            ..own
+        },
+        _ => Set {
+            log_capacity: data_limit - 1,
+            ..own
+        },
+    }
+}
