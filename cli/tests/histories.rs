@@ -55,12 +55,15 @@ mod tally;
 
 use std::collections::BTreeSet;
 
+use pahyndoi::model::Set;
+
 use answer::{is_accepted, split};
 use device::Device;
 use lent::Stand;
 use plans::Outcomes;
 use presentation::Presentation;
-use random::{Case, Run};
+use random::{Case, Random, Run};
+use rows::Row;
 use tally::{Tallies, Tally};
 
 #[test]
@@ -222,17 +225,24 @@ fn find_entries_again(case: &mut Case, tally: &mut Tally) {
 #[test]
 fn areas_are_taken_as_written() {
     let mut case = Run::new(1).case(0);
-    let mut tally = Tally::default();
-    for row in rows::rows() {
-        case.step = row.name.to_string();
-        let forgery = forgery::seal_areas(&mut case.random, None, &row.lengths, &row.areas);
-        let answer = forgery.compare(&mut case.random, &mut tally);
-        assert_eq!(split(answer), row.answer);
-        if is_accepted(answer) {
-            forgery.go_there_and_back(&mut case.random, row.areas.len());
+    let mut tallies = Tallies::default();
+    for own_set in sets::none_and_corners() {
+        for row in rows::rows(sets::in_effect(own_set)) {
+            case.step = format!("{own_set:?}, {}", row.name);
+            check_row(&mut case.random, tallies.of(own_set), own_set, &row);
         }
     }
-    tally.print();
+    tallies.print();
+    tallies.assert_all_met("audit", &[0, 5, 18, 19, 20, 23], 2);
+}
+
+fn check_row(random: &mut Random, tally: &mut Tally, own_set: Option<Set>, row: &Row) {
+    let forgery = forgery::seal_areas(random, own_set, &row.lengths, &row.areas);
+    let answer = forgery.compare(random, tally);
+    assert_eq!(split(answer), row.answer);
+    if is_accepted(answer) {
+        forgery.go_there_and_back(random, row.areas.len());
+    }
 }
 
 /// All bits of one small material, one after the other, and every length of

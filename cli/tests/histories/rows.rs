@@ -1,5 +1,7 @@
 //! Entries with right tags, and what an audit answers.
 
+use pahyndoi::model::Set;
+
 use crate::areas::Area;
 
 pub struct Row {
@@ -19,21 +21,28 @@ fn row(name: &'static str, lengths: &[u32], areas: &[Area], answer: (u32, u32)) 
     }
 }
 
-pub fn rows() -> Vec<Row> {
-    [range_rows(), overlap_rows(), waiting_rows()]
+/// Those for a store with this set.
+pub fn rows(set: Set) -> Vec<Row> {
+    // Three of the areas that overlap, or do not, are so long.
+    let overlaps = match set.data_limit >= 15 {
+        true => overlap_rows(),
+        false => Vec::new(),
+    };
+    [range_rows(set), end_rows(set), overlaps, waiting_rows()]
         .into_iter()
         .flatten()
         .collect()
 }
 
-fn range_rows() -> Vec<Row> {
-    let one = |name, area, answer| row(name, &[600], &[area], answer);
+fn range_rows(set: Set) -> Vec<Row> {
+    let limit = set.data_limit;
+    let longer = (limit + 88).min(set.log_capacity);
+    let one = |name, area, answer| row(name, &[longer], &[area], answer);
     vec![
-        row("whole log", &[512], &[(1, 0, 512)], (0, 1)),
-        row("a byte beyond", &[511], &[(1, 0, 512)], (18, 0)),
-        row("a byte left", &[513], &[(1, 0, 512)], (23, 0)),
+        row("whole log", &[limit], &[(1, 0, limit)], (0, 1)),
+        row("a byte beyond", &[limit - 1], &[(1, 0, limit)], (18, 0)),
         row("waiting to the end", &[2], &[(1, 1, 1)], (23, 0)),
-        one("data of 513", (1, 0, 513), (18, 0)),
+        one("data one byte too long", (1, 0, limit + 1), (18, 0)),
         one("no data", (1, 0, 0), (18, 0)),
         one("phase 0", (0, 0, 1), (18, 0)),
         one("phase 2 of 1", (2, 0, 1), (18, 0)),
@@ -41,6 +50,24 @@ fn range_rows() -> Vec<Row> {
         one("end beyond 2 to the 32", (1, u32::MAX, 2), (18, 0)),
         one("length wraps", (1, 5, u32::MAX), (18, 0)),
         one("high bit of the offset", (1, 1 << 31, 1), (18, 0)),
+    ]
+}
+
+/// At the end of the log, and at the place where the next one begins.
+fn end_rows(set: Set) -> Vec<Row> {
+    let (limit, end) = (set.data_limit, set.log_capacity);
+    // A longer log than its place allows is refused before that.
+    let left = if limit < end { (23, 0) } else { (5, 0) };
+    let both = |name, area, answer| row(name, &[end, end], &[area], answer);
+    vec![
+        row("a byte left", &[limit + 1], &[(1, 0, limit)], left),
+        row("log too long", &[end + 1], &[(1, 0, limit)], (5, 0)),
+        row("second too long", &[0, end + 1], &[(2, 0, limit)], (5, 0)),
+        both("last byte", (1, end - 1, 1), (23, 0)),
+        both("last bytes", (1, end - limit, limit), (23, 0)),
+        both("one byte behind", (1, end, 1), (18, 0)),
+        both("into the next log", (1, end - limit + 1, limit), (18, 0)),
+        both("behind the last log", (2, end, 1), (18, 0)),
     ]
 }
 

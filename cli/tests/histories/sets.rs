@@ -38,6 +38,11 @@ pub fn in_effect(own_set: Option<Set>) -> Set {
     own_set.unwrap_or(Set::COMMON)
 }
 
+/// None, as for a store of kind 1, then the corners.
+pub fn none_and_corners() -> impl Iterator<Item = Option<Set>> {
+    [None].into_iter().chain(CORNERS.map(Some))
+}
+
 /// The corner of this number; behind the last one any set.
 pub fn nth(random: &mut Random, number: usize) -> Set {
     match CORNERS.get(number) {
