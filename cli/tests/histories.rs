@@ -250,9 +250,14 @@ fn check_row(random: &mut Random, tally: &mut Tally, own_set: Option<Set>, row: 
 #[test]
 fn no_bit_and_no_length_can_be_changed() {
     let mut case = Run::new(1).case(0);
-    let mut tally = Tally::default();
-    bits::check_changes(&mut case, &mut tally);
-    tally.print();
+    let mut tallies = Tallies::default();
+    for own_set in sets::none_and_corners() {
+        bits::check_changes(&mut case, tallies.of(own_set), own_set);
+    }
+    tallies.print();
+    // Too few items to wait, which 20 would refuse.
+    let met = AUDIT_REFUSALS.into_iter().filter(|refusal| *refusal != 20);
+    tallies.assert_all_met("audit", &met.collect::<Vec<u32>>(), 1);
 }
 
 #[test]

@@ -1,6 +1,6 @@
 //! Every single change to one small material.
 
-use pahyndoi::model::{Account, Call, LOG_CAPACITY, plain_hmac};
+use pahyndoi::model::{Account, Call, Header, Set, plain_hmac};
 
 use crate::answer::split;
 use crate::device::Shape;
@@ -10,8 +10,11 @@ use crate::presentation::Presentation;
 use crate::random::{Case, Random};
 use crate::tally::Tally;
 
-/// The length of each log.
-const LENGTHS: [usize; 2] = [7, 3];
+/// The phases of the entries, and their lengths where the set allows them.
+const ENTRIES: [(u8, usize); 3] = [(1, 5), (2, 3), (1, 2)];
+
+/// With a filler behind them.
+const ITEMS: u32 = 4;
 
 /// A part of the material by name.
 type Part = (&'static str, fn(&mut Presentation) -> &mut Vec<u8>);
@@ -26,46 +29,58 @@ const LOGS: Part = ("log memory", |material| &mut material.log_memory);
 
 /// Fails where the audits differ, or where a bit or a length can be changed
 /// and the material is still accepted.
-pub fn check_changes(case: &mut Case, tally: &mut Tally) {
-    let untouched = small_material(&mut case.random);
-    let answer = untouched.compare_at(&mut case.random, tally, &all_places());
-    assert_eq!(answer, 4);
+pub fn check_changes(case: &mut Case, tally: &mut Tally, own_set: Option<Set>) {
+    let (untouched, lengths) = small_material(&mut case.random, own_set);
+    let header = Header::parse(&untouched.device_store).expect("a store");
+    let places = all_places(header.set());
+    let answer = untouched.compare_at(&mut case.random, tally, &places);
+    assert_eq!(split(answer), (0, ITEMS));
     for part in PARTS {
         let length = part.1(&mut untouched.clone()).len();
         flip_bits(case, tally, &untouched, part, 0..length);
         resize(case, tally, &untouched, part);
     }
-    for (phase, length) in LENGTHS.into_iter().enumerate() {
-        let start = LOG_CAPACITY * phase;
-        flip_bits(case, tally, &untouched, LOGS, start..start + length);
+    for (phase, length) in (1..).zip(lengths) {
+        let start = header.log_start(phase);
+        flip_bits(
+            case,
+            tally,
+            &untouched,
+            LOGS,
+            start..start + length as usize,
+        );
     }
+    flip_both_headers(case, tally, &untouched, &header);
 }
 
 /// Every phase with the offsets that its logs have and some that they have not.
-fn all_places() -> Vec<Place> {
-    let offsets = || (0..10).chain([255, 256, 8191, 8192, 65_536, u32::MAX]);
+fn all_places(set: Set) -> Vec<Place> {
+    let end = set.log_capacity;
+    let offsets = || (0..10).chain([255, 256, end - 1, end, 65_536, u32::MAX]);
     (0..=255)
         .flat_map(|phase| offsets().map(move |offset| (phase, offset)))
         .collect()
 }
 
-/// Two phases, three chunks, N = 2: three entries and a filler.
-fn small_material(random: &mut Random) -> Presentation {
+/// Two phases, three chunks, N = 2: three entries and a filler. With the log
+/// lengths.
+fn small_material(random: &mut Random, own_set: Option<Set>) -> (Presentation, Vec<u32>) {
     let shape = Shape {
-        own_set: None,
-        phases: LENGTHS.len(),
+        own_set,
+        phases: 2,
         chunk_count: 3,
         ratchet: 2,
         seal_memory: 200,
     };
     let start = shape.material(random);
     let mut account = Account::start(&start).expect("an unused store");
-    for (phase, length) in [(1, 5), (2, LENGTHS[1]), (1, LENGTHS[0] - 5)] {
-        let data = random.bytes(length);
+    for (phase, length) in ENTRIES {
+        let data = random.bytes(length.min(shape.set().data_limit as usize));
         account.call(plain_hmac, &Call::Append { phase, data });
     }
     account.call(plain_hmac, &Call::Close);
-    honest::of_account(&start, shape.set(), &account).presentation
+    let honest = honest::of_account(&start, shape.set(), &account);
+    (honest.presentation, account.log_lengths())
 }
 
 fn flip_bits(
@@ -81,6 +96,43 @@ fn flip_bits(
         case.step = format!("{name}, bit {} of byte {}", bit % 8, bit / 8);
         check_refused(case, tally, &changed);
     }
+}
+
+/// The same bit of both headers. The id and a data limit that the entries keep
+/// to do not show in the items; all else must.
+fn flip_both_headers(
+    case: &mut Case,
+    tally: &mut Tally,
+    untouched: &Presentation,
+    header: &Header,
+) {
+    for bit in 0..8 * header.length() {
+        let mut changed = untouched.clone();
+        for store in [&mut changed.device_store, &mut changed.auditor_store] {
+            store[bit / 8] ^= 1 << (bit % 8);
+        }
+        case.step = format!("both headers, bit {} of byte {}", bit % 8, bit / 8);
+        let answer = changed.compare(&mut case.random, tally);
+        let new = Header::parse(&changed.device_store);
+        let accepted = new.is_some_and(|new| keeps_items(header, &new));
+        assert_eq!(split(answer) == (0, ITEMS), accepted);
+        assert_eq!(split(answer).0 == 0, accepted);
+    }
+}
+
+fn keeps_items(old: &Header, new: &Header) -> bool {
+    let data_limit = new.set().data_limit;
+    let longest = ENTRIES.map(|entry| entry.1).into_iter().max();
+    let longest = longest.unwrap_or(0).min(old.set().data_limit as usize);
+    let same = Header {
+        id: old.id,
+        own_set: new.own_set.map(|set| Set {
+            data_limit: old.set().data_limit,
+            ..set
+        }),
+        ..*new
+    };
+    same == *old && data_limit as usize >= longest
 }
 
 /// Every shorter length, and some longer ones.
