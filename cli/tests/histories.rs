@@ -60,6 +60,7 @@ use pahyndoi::model::Set;
 use answer::{is_accepted, split};
 use device::Device;
 use lent::Stand;
+use places::Place;
 use plans::Outcomes;
 use presentation::Presentation;
 use random::{Case, Random, Run};
@@ -263,16 +264,29 @@ fn no_bit_and_no_length_can_be_changed() {
 #[test]
 fn largest_material_is_audited_to_its_last_byte() {
     let mut case = Run::new(1).case(0);
-    let mut tally = Tally::default();
-    let mut largest: Presentation = largest::material(&mut case.random);
+    let mut tallies = Tallies::default();
+    for plan in largest::PLANS {
+        case.step = format!("{plan:?}");
+        audit_largest(&mut case.random, tallies.of(plan.own_set), &plan);
+    }
+    tallies.print();
+}
+
+fn audit_largest(random: &mut Random, tally: &mut Tally, plan: &largest::Plan) {
+    let mut largest: Presentation = largest::material(random, plan);
     let items = largest::ITEMS as u32;
-    let answer = largest.compare_at(&mut case.random, &mut tally, &[(8, 8191), (8, 8192)]);
+    let (last, behind) = ((8, plan.log_length() - 1), (8, plan.log_length()));
+    // Every lookup audits anew, which takes long here.
+    let (places, entries, when_altered): (&[Place], usize, &[Place]) = match plan.own_set {
+        None => (&[last, behind], 2, &[last]),
+        Some(_) => (&[last], 0, &[]),
+    };
+    let answer = largest.compare_at(random, tally, places);
     assert_eq!(split(answer), (0, items));
-    largest.go_there_and_back(&mut case.random, 2);
+    largest.go_there_and_back(random, entries);
     *largest.seal_file.last_mut().expect("a tag") ^= 1;
-    let answer = largest.compare_at(&mut case.random, &mut tally, &[(8, 8191)]);
+    let answer = largest.compare_at(random, tally, when_altered);
     assert_eq!(split(answer), (21, items - 1));
-    tally.print();
 }
 
 #[test]
