@@ -310,43 +310,61 @@ fn plans_are_those_of_the_model() {
 #[test]
 fn followed_plans_burn_what_they_take() {
     let run = Run::new(1000);
-    let (mut lasted, mut spent) = (0, 0);
-    for number in 0..run.cases {
-        let ends = cards::use_up(&mut run.case(number).random);
-        lasted += ends.0;
-        spent += ends.1;
+    let mut tallies = Tallies::default();
+    for mut case in run.each() {
+        let (lasted, spent) = cards::use_up(&mut case);
+        let tally = tallies.of(case.own_set);
+        tally.count(LASTED, lasted);
+        tally.count(SPENT, spent);
     }
-    println!("plans that lasted: {lasted}, that met the last key: {spent}");
+    tallies.print();
     if run.whole {
-        assert!(lasted.min(spent) > run.cases / 2, "few of a kind");
+        tallies.assert_more(LASTED, run.cases / 2);
+        tallies.assert_more(SPENT, run.cases / 2);
     }
 }
+
+const LASTED: &str = "plans that lasted";
+const SPENT: &str = "plans that met the last key";
 
 #[test]
 fn least_ratchet_lasts_and_no_smaller_one_does() {
     let run = Run::new(1000);
-    let (mut none, mut ratchets) = (0, BTreeSet::new());
-    for number in 0..run.cases {
-        match cards::try_least(&mut run.case(number).random) {
-            None => none += 1,
-            Some(ratchet) => _ = ratchets.insert(ratchet),
+    let mut tallies = Tallies::default();
+    let mut met = BTreeSet::new();
+    for mut case in run.each() {
+        let least = cards::try_least(&mut case);
+        let tally = tallies.of(case.own_set);
+        match least {
+            None => tally.count(NONE_LASTS, 1),
+            Some(ratchet) if met.insert((case.own_set.is_some(), ratchet)) => {
+                tally.count(RATCHETS_MET, 1);
+            }
+            Some(_) => (),
         }
     }
-    println!("none lasts: {none}, least: {ratchets:?}");
+    tallies.print();
     if run.whole {
-        assert!(none > run.cases / 20, "few plans were too large");
-        assert!(ratchets.len() > 20, "few ratchets were the least");
+        tallies.assert_more(NONE_LASTS, run.cases / 20);
+        tallies.assert_more(RATCHETS_MET, 20);
     }
 }
+
+const NONE_LASTS: &str = "plans for which none lasts";
+const RATCHETS_MET: &str = "ratchets that were the least";
 
 #[test]
 fn no_key_is_missing_where_memory_is() {
     let run = Run::new(500);
-    let refused: usize = (0..run.cases)
-        .map(|number| cards::run_out_of_memory(&mut run.case(number).random))
-        .sum();
-    println!("calls refused by 10: {refused}");
+    let mut tallies = Tallies::default();
+    for mut case in run.each() {
+        let refused = cards::run_out_of_memory(&mut case);
+        tallies.of(case.own_set).count(REFUSED_BY_10, refused);
+    }
+    tallies.print();
     if run.whole {
-        assert!(refused > run.cases, "few calls were refused");
+        tallies.assert_more(REFUSED_BY_10, run.cases);
     }
 }
+
+const REFUSED_BY_10: &str = "calls refused by 10";

@@ -3,17 +3,16 @@
 
 use pahyndoi::least_ratchet;
 use pahyndoi::model::{
-    Account, Call, ENTRY_LENGTH, KEY_LENGTH, State, chunks_needed, is_burned, plain_hmac,
+    Account, Call, KEY_LENGTH, Set, State, chunks_needed, is_burned, plain_hmac,
 };
 
 use crate::answer::split;
 use crate::calls::{assert_same_material, name};
-use crate::device::{Device, Shape};
+use crate::device::{Device, Shape, header_length};
 use crate::lent::Stand;
 use crate::library;
-use crate::random::Random;
-
-const HEADER_LENGTH: usize = 18;
+use crate::random::{Case, Random};
+use crate::sets::in_effect;
 
 /// A call that was refused, and by what.
 type Refused = (&'static str, u32);
@@ -22,11 +21,13 @@ const KEYS_SPENT: Refused = ("append", 11);
 
 /// Plans one after the other on one card, until one is refused: how many last
 /// and how many do not.
-pub fn use_up(random: &mut Random) -> (usize, usize) {
+pub fn use_up(case: &mut Case) -> (usize, usize) {
+    let own_set = roomy(case.own_set);
+    let random = &mut case.random;
     let ratchet = random.pick(&[1, 1, 2, 3, 4, 7, 16]);
     let counts = random_counts(random, ratchet);
     let chunks = near_chunks(random, chunks_needed(&counts, ratchet));
-    let mut card = Card::new(random, chunks, ratchet);
+    let mut card = Card::new(random, own_set, chunks, ratchet);
     if card.follow(random, &counts).is_err() {
         return (0, 1);
     }
@@ -42,17 +43,19 @@ pub fn use_up(random: &mut Random) -> (usize, usize) {
 /// Unused cards with the ratchet that the library answers, which last, and
 /// with smaller ones, or any where it answers none, which do not. Gives the
 /// answer.
-pub fn try_least(random: &mut Random) -> Option<u32> {
+pub fn try_least(case: &mut Case) -> Option<u32> {
+    let own_set = roomy(case.own_set);
+    let random = &mut case.random;
     let typical = random.pick(&[1, 2, 5, 16, 40]);
     let counts = random_counts(random, typical);
     let chunks = near_chunks(random, chunks_needed(&counts, typical));
     let least = least_ratchet(&counts, chunks).expect("a small plan");
     if let Some(ratchet) = least {
-        let mut card = Card::new(random, chunks, ratchet);
+        let mut card = Card::new(random, own_set, chunks, ratchet);
         assert_eq!(card.follow(random, &counts), Ok(()));
     }
     for ratchet in too_small(random, least) {
-        let mut card = Card::new(random, chunks, ratchet);
+        let mut card = Card::new(random, own_set, chunks, ratchet);
         assert_eq!(card.follow(random, &counts), Err(KEYS_SPENT));
     }
     least
@@ -70,16 +73,30 @@ fn too_small(random: &mut Random, least: Option<u32>) -> Vec<u32> {
 
 /// A plan that lasts where the seal memory does not: no key is missing. Gives
 /// how many calls were refused.
-pub fn run_out_of_memory(random: &mut Random) -> usize {
+pub fn run_out_of_memory(case: &mut Case) -> usize {
+    let own_set = roomy(case.own_set);
+    let random = &mut case.random;
     let ratchet = random.pick(&[1, 2, 3, 7]);
     let counts = random_counts(random, ratchet);
     let chunks = chunks_needed(&counts, ratchet).max(1);
-    let items = (chunks * ratchet) as usize;
-    let seal_memory = random.up_to(ENTRY_LENGTH * items);
-    let mut card = Card::with_seal_memory(random, chunks, ratchet, seal_memory);
+    let seal_memory = random.up_to(entries_length(own_set, chunks * ratchet));
+    let mut card = Card::with_seal_memory(random, own_set, chunks, ratchet, seal_memory);
     let refused = card.press_on(random, &counts);
     assert!(refused.iter().all(|(_, refusal)| *refusal == 10));
     refused.len()
+}
+
+/// The set with logs for every entry that a card is used up with, one byte each.
+fn roomy(own_set: Option<Set>) -> Option<Set> {
+    own_set.map(|set| Set {
+        log_capacity: set.log_capacity.max(1200),
+        ..set
+    })
+}
+
+/// The bytes of so many entry items.
+fn entries_length(own_set: Option<Set>, count: u32) -> usize {
+    in_effect(own_set).entry_length() * count as usize
 }
 
 /// Few small counts, many of them around multiples of the ratchet.
@@ -106,19 +123,20 @@ struct Card {
 impl Card {
     /// With seal memory for an entry under each key and for one more, which
     /// rule 10 would else refuse before 11.
-    fn new(random: &mut Random, chunks: u32, ratchet: u32) -> Card {
-        let items = (chunks * ratchet) as usize;
-        Card::with_seal_memory(random, chunks, ratchet, ENTRY_LENGTH * (items + 1))
+    fn new(random: &mut Random, own_set: Option<Set>, chunks: u32, ratchet: u32) -> Card {
+        let seal_memory = entries_length(own_set, chunks * ratchet + 1);
+        Card::with_seal_memory(random, own_set, chunks, ratchet, seal_memory)
     }
 
     fn with_seal_memory(
         random: &mut Random,
+        own_set: Option<Set>,
         chunks: u32,
         ratchet: u32,
         seal_memory: usize,
     ) -> Card {
         let shape = Shape {
-            own_set: None,
+            own_set,
             phases: random.between(1, 3),
             chunk_count: chunks as usize,
             ratchet: ratchet as usize,
@@ -216,6 +234,7 @@ impl Card {
     }
 
     fn store_chunks(&self) -> impl Iterator<Item = &[u8]> {
-        self.device.material.store[HEADER_LENGTH..].chunks(KEY_LENGTH)
+        let store = &self.device.material.store;
+        store[header_length(store)..].chunks(KEY_LENGTH)
     }
 }
