@@ -44,6 +44,8 @@ mod plans;
 mod presentation;
 #[path = "histories/random.rs"]
 mod random;
+#[path = "histories/ranges.rs"]
+mod ranges;
 #[path = "histories/requests.rs"]
 mod requests;
 #[path = "histories/rows.rs"]
@@ -259,6 +261,19 @@ fn no_bit_and_no_length_can_be_changed() {
     // Too few items to wait, which 20 would refuse.
     let met = AUDIT_REFUSALS.into_iter().filter(|refusal| *refusal != 20);
     tallies.assert_all_met("audit", &met.collect::<Vec<u32>>(), 1);
+}
+
+/// Sets one beyond each edge of the range, and those at the edges.
+#[test]
+fn sets_are_taken_up_to_their_edges() {
+    let mut case = Run::new(1).case(0);
+    let mut tally = Tally::default();
+    for (set, in_range) in ranges::ROWS {
+        case.step = format!("{set:?}");
+        ranges::check(&mut case.random, &mut tally, set, in_range);
+    }
+    tally.print();
+    tally.assert_met("audit", &[0, 2, 12], 20);
 }
 
 #[test]
