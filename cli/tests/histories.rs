@@ -20,6 +20,8 @@ mod damage;
 mod device;
 #[path = "histories/edges.rs"]
 mod edges;
+#[path = "histories/exchanges.rs"]
+mod exchanges;
 #[path = "histories/fenced.rs"]
 mod fenced;
 #[path = "histories/forgery.rs"]
@@ -61,6 +63,7 @@ use pahyndoi::model::Set;
 
 use answer::{is_accepted, split};
 use device::Device;
+use exchanges::Exchange;
 use lent::Stand;
 use places::Place;
 use plans::Outcomes;
@@ -274,6 +277,38 @@ fn sets_are_taken_up_to_their_edges() {
     }
     tally.print();
     tally.assert_met("audit", &[0, 2, 12], 20);
+}
+
+/// Every set presented as every other one.
+#[test]
+fn sets_cannot_be_exchanged() {
+    let mut case = Run::new(1).case(0);
+    let mut tallies = Tallies::default();
+    for own_set in sets::none_and_corners() {
+        let tally = tallies.of(own_set);
+        for other in sets::none_and_corners().filter(|other| *other != own_set) {
+            let exchange = Exchange { own_set, other };
+            case.step = format!("{exchange:?}");
+            exchange.check(&mut case.random, tally);
+        }
+        case.step = format!("{own_set:?}, the other kind");
+        exchanges::check_kinds(&mut case.random, tally, own_set);
+    }
+    tallies.print();
+    tallies.assert_met("audit", &[0, 2, 3, 12, 13, 15, 18], 1);
+    tallies.of_kind_6.assert_met("audit", &[5, 21], 40);
+}
+
+#[test]
+fn tags_cannot_be_cut_or_lengthened() {
+    let mut case = Run::new(1).case(0);
+    let mut tallies = Tallies::default();
+    for own_set in sets::none_and_corners() {
+        case.step = format!("{own_set:?}");
+        exchanges::check_tags(&mut case.random, tallies.of(own_set), own_set);
+    }
+    tallies.print();
+    tallies.assert_met("audit", &[15, 21], 20);
 }
 
 #[test]

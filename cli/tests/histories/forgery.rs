@@ -57,11 +57,22 @@ pub fn seal_areas(
     lengths: &[u32],
     areas: &[Option<Area>],
 ) -> Presentation {
+    let tags = vec![in_effect(own_set).tag_length.into(); areas.len()];
+    seal_with_tags(random, own_set, lengths, areas, &tags)
+}
+
+/// The same with a tag length for each item, whatever the set says.
+pub fn seal_with_tags(
+    random: &mut Random,
+    own_set: Option<Set>,
+    lengths: &[u32],
+    areas: &[Option<Area>],
+    tags: &[usize],
+) -> Presentation {
     let shape = shape(random, own_set, areas.len(), 1, lengths);
     let forger = Forger::new(random, &shape, areas.len(), lengths);
     let mut items = forger.seal_all(&heads(areas, 1), false);
-    let tags = vec![shape.set().tag_length.into(); areas.len()];
-    cut_tags(&mut items, &tags);
+    cut_tags(&mut items, tags);
     forger.present(&items)
 }
 
