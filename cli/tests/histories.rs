@@ -22,6 +22,8 @@ mod device;
 mod edges;
 #[path = "histories/exchanges.rs"]
 mod exchanges;
+#[path = "common/fence.rs"]
+mod fence;
 #[path = "histories/fenced.rs"]
 mod fenced;
 #[path = "histories/forgery.rs"]

@@ -1,5 +1,7 @@
 //! The plan's call at its edges: each answer known beforehand.
 
+#[path = "common/fence.rs"]
+mod fence;
 #[path = "planning/fenced.rs"]
 mod fenced;
 
