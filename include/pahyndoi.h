@@ -144,8 +144,9 @@ uint32_t pahyndoi_hmac_sha256(const uint8_t *key, size_t key_length,
 
 /*
  * Of every set, in bytes. Each is a constant where its arguments are, in #if as
- * well, has an unsigned type and evaluates each argument once. Nothing is
- * checked: of arguments that no store has it says nothing.
+ * well, and evaluates each argument once. Its type is unsigned where those of
+ * its arguments are, or are no wider than unsigned int. Nothing is checked: of
+ * arguments that no store has it says nothing.
  *
  *   ENTRY_SIZE_OF   An entry item: 18 bytes and the tag.
  *   FILLER_SIZE_OF  A filler item: 9 bytes and the tag.
