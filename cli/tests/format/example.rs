@@ -14,11 +14,23 @@ const ENTRY_HEAD_LENGTH: usize = 18;
 const ENTRY_LENGTH: usize = 50;
 const FILLER_HEAD_LENGTH: usize = 9;
 
+const LOG_CAPACITY: usize = 8192;
+const SMALL_LOG_CAPACITY: usize = 512;
+
 /// One phase, one chunk and two keys from it.
-fn unused_store() -> Vec<u8> {
+fn store_of(kind: u8, set: &[u8]) -> Vec<u8> {
     let counts = [1, 1, 0, 0, 0, 2, 0, 0, 0];
     let chunk: Vec<u8> = (0x20..0x40).collect();
-    [&[1], &b"device 7"[..], &counts, &chunk].concat()
+    [&[kind], &b"device 7"[..], &counts, set, &chunk].concat()
+}
+
+fn unused_store() -> Vec<u8> {
+    store_of(1, &[])
+}
+
+/// Tags of 16 bytes, 64 bytes of data at most, logs of 512 bytes.
+fn small_store() -> Vec<u8> {
+    store_of(6, &[16, 64, 0, 0, 0, 0, 2, 0, 0])
 }
 
 /// The fields in order, numbers little-endian.
@@ -39,6 +51,7 @@ fn tag(key: &[u8], message: &[u8]) -> Vec<u8> {
 
 /// What the page says, as the calls give it.
 struct Run {
+    unused: Vec<u8>,
     store: Vec<u8>,
     logs: Vec<u8>,
     seal: Vec<u8>,
@@ -49,16 +62,27 @@ struct Run {
 
 impl Run {
     fn new() -> Run {
+        let mut run = Run::on(unused_store(), LOG_CAPACITY);
+        run.items();
+        run
+    }
+
+    /// On the card of kind 6.
+    fn small() -> Run {
+        Run::on(small_store(), SMALL_LOG_CAPACITY)
+    }
+
+    fn on(unused: Vec<u8>, log_capacity: usize) -> Run {
         let mut run = Run {
-            store: unused_store(),
-            logs: vec![0; 8192],
+            store: unused.clone(),
+            unused,
+            logs: vec![0; log_capacity],
             seal: vec![0; 160],
             state: State::default(),
             blocks: BTreeMap::new(),
             answers: Vec::new(),
         };
         run.sealed();
-        run.items();
         run.audited();
         run
     }
@@ -73,7 +97,7 @@ impl Run {
 
     /// The calls of the device, and what each leaves.
     fn sealed(&mut self) {
-        self.block("unused store", unused_store());
+        self.block("unused store", self.unused.clone());
         self.open();
         self.block("state after open", state_bytes(&self.state));
         self.append("append");
@@ -135,8 +159,11 @@ impl Run {
         let (entry, filler) = seal_file.split_at(ENTRY_LENGTH);
         let (entry_head, entry_tag) = entry.split_at(ENTRY_HEAD_LENGTH);
         let (filler_head, filler_tag) = filler.split_at(FILLER_HEAD_LENGTH);
-        let message = [entry_head, &self.logs[..DATA.len()]].concat();
-        self.block("key of item 0", unused_store().split_off(HEADER_LENGTH));
+        let message = [entry_head, DATA].concat();
+        self.block(
+            "key of item 0",
+            self.unused.clone().split_off(HEADER_LENGTH),
+        );
         self.block("message of item 0", message);
         self.block("tag of item 0", entry_tag.to_vec());
         self.block("ratchet message", ratchet_message(1, 2));
@@ -155,14 +182,29 @@ impl Run {
     fn audit(&mut self, call: &'static str) {
         let Run { store, logs, .. } = &self;
         let lengths = self.state.lengths[0].to_le_bytes();
-        let answer = audit_raw(store, &unused_store(), logs, &lengths, &self.seal_file());
+        let answer = audit_raw(store, &self.unused, logs, &lengths, &self.seal_file());
         self.answer(call, answer);
     }
 }
 
+/// What the page shows of the small card, by its labels there.
+fn small_blocks() -> BTreeMap<String, Vec<u8>> {
+    let blocks = Run::small().blocks;
+    let shown = [
+        ("unused store of kind 6", "unused store"),
+        ("store of kind 6 after append", "store after append"),
+        ("seal file of kind 6", "seal file"),
+    ];
+    shown
+        .iter()
+        .map(|(label, of_run)| (label.to_string(), blocks[*of_run].clone()))
+        .collect()
+}
+
 #[test]
 fn every_block_is_what_the_calls_give() {
-    let given = Run::new().blocks;
+    let mut given = Run::new().blocks;
+    given.append(&mut small_blocks());
     let page = page::blocks(page::section(EXAMPLE));
     let labels: Vec<&String> = page.keys().collect();
     assert_eq!(labels, given.keys().collect::<Vec<&String>>());
@@ -197,4 +239,19 @@ fn every_answer_is_what_the_calls_give() {
         .map(|(call, answer)| (*call, format!("`{answer:#018x}`")))
         .collect();
     assert_eq!(page, given);
+}
+
+/// The small card's states but for the seal length, and its answers, are those
+/// of the other.
+#[test]
+fn small_card_differs_where_the_page_says() {
+    let (common, small) = (Run::new(), Run::small());
+    assert_eq!(small.answers, common.answers);
+    let seal_length = size_of::<State>() - size_of::<u64>();
+    for (label, length) in [("open", 0u64), ("append", 34), ("close", 59)] {
+        let label = format!("state after {label}");
+        let (state, other) = (&small.blocks[&label], &common.blocks[&label]);
+        assert_eq!(state[..seal_length], other[..seal_length], "{label}");
+        assert_eq!(state[seal_length..], length.to_le_bytes(), "{label}");
+    }
 }
