@@ -1,20 +1,10 @@
 // A key store's header, read out of any bytes.
 ghost use mathlib.Core.Path.{_≡_};
-ghost use Rattle.scheme.specs.Rules as Rules;
 ghost use Rattle.scheme.specs.Store.{unheaded};
-ghost use Rattle.codec.specs.Header.{headerOf, Headed, badFields, readHeader};
+ghost use Rattle.codec.specs.Header.{headerOf, Headed, readHeader};
 use crate::layout::DATA_LIMIT;
 use crate::layout::HEADER_LENGTH;
 use crate::layout::LOG_CAPACITY;
-use crate::layout::MAX_CHUNKS;
-use crate::layout::MAX_DATA_LIMIT;
-use crate::layout::MAX_LOG_CAPACITY;
-use crate::layout::MAX_PHASES;
-use crate::layout::MAX_RATCHET;
-use crate::layout::MAX_TAG_LENGTH;
-use crate::layout::MIN_DATA_LIMIT;
-use crate::layout::MIN_LOG_CAPACITY;
-use crate::layout::MIN_TAG_LENGTH;
 use crate::layout::OWN_SET_HEADER_LENGTH;
 use crate::layout::OWN_SET_KIND;
 use crate::layout::STORE_KIND;
@@ -23,6 +13,7 @@ use crate::places::chunk_place;
 use bytes::words::read_u32;
 use bytes::words::wide;
 use scheme::Header;
+use scheme::ranges::out_of_range;
 
 // What reading bytes as a key store finds: the header of a good store, or that the store is bad.
 pub enum Reading {
@@ -89,39 +80,4 @@ fn fields(store: &[u8]) -> Header
         data_limit: DATA_LIMIT,
         log_capacity: LOG_CAPACITY,
     }
-}
-
-// A count or a parameter that no store may have.
-fn out_of_range(header: Header) -> bool
-    ensures { λ r. ⌜ r ≡ badFields header ⌝ }
-{
-    if outside(1, MAX_PHASES, wide(header.phases)) {
-        return true;
-    }
-    if outside(1, MAX_CHUNKS, header.chunks) {
-        return true;
-    }
-    if outside(1, MAX_RATCHET, header.ratchet) {
-        return true;
-    }
-    if outside(MIN_TAG_LENGTH, MAX_TAG_LENGTH, header.tag_length) {
-        return true;
-    }
-    if outside(MIN_DATA_LIMIT, MAX_DATA_LIMIT, header.data_limit) {
-        return true;
-    }
-    if outside(MIN_LOG_CAPACITY, MAX_LOG_CAPACITY, header.log_capacity) {
-        return true;
-    }
-    header.log_capacity < header.data_limit
-}
-
-// A number outside its range.
-pub fn outside(low: u32, high: u32, n: u32) -> bool
-    ensures { λ r. ⌜ r ≡ Rules.outside low high n ⌝ }
-{
-    if n < low {
-        return true;
-    }
-    high < n
 }

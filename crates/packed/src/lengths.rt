@@ -4,7 +4,7 @@ ghost use Prim.Native.Nat.{_*_, _≤_};
 ghost use lib.ListN.{length, take};
 ghost use Rattle.packed.specs.Lengths.{words, Counted};
 use bytes::words::read_u32;
-use codec::layout::MAX_PHASES;
+use scheme::ranges::MAX_PHASES;
 
 // The bytes of a length.
 const LENGTH_SIZE: usize = 4;

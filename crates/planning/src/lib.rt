@@ -7,8 +7,8 @@ ghost use Rattle.planning.specs.Ratchet.{Planned, Between};
 mod counting;
 
 use bytes::memory::any_over;
-use codec::header::outside;
 use counting::chunks_for;
+use scheme::ranges::outside;
 
 // The most counts, the largest of them, the most chunks of a card, and the largest ratchet.
 const MOST_COUNTS: usize = 64;

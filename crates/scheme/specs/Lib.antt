@@ -2,6 +2,7 @@
 pub mod Bytes
 pub mod Rules
 pub mod Store
+pub mod Fields
 pub mod Items
 pub mod Areas
 pub mod Keys

@@ -1,26 +1,22 @@
--- `codec::header::out_of_range` meets its contract: each answer `true` stands behind one of the conditions.
+-- `scheme::ranges::out_of_range` meets its contract: each answer `true` stands behind one of the conditions.
 use mathlib.Core.Path.{_≡_, sym, ap, _∙_}
 use mathlib.Core.List.{[], _∷_}
 use Rattle.scheme.specs.Rules.{outside}
 use Rattle.scheme.specs.Store.{outOfRange}
 use Rattle.scheme.proofs.Rules.{any-at, last-decides, _also_}
 use borrow.Author.Needs.{needs}
-use Rattle.codec.proofs.header.out_of_range.Statement.{statement}
-use Rattle.codec.proofs.header.out_of_range.Tie as tie
+use Rattle.scheme.proofs.ranges.out_of_range.Statement.{statement}
+use Rattle.scheme.proofs.ranges.out_of_range.Tie as tie
 
-wide-requires : tie.Need-wide-requires
-wide-requires c κs = search needs
+cast-outside : tie.Need-cast-outside
+cast-outside c = search needs
 
 outside-requires : tie.Need-outside-requires
 outside-requires c κs = search needs
 
--- the phases are tested as the number that their byte is
-phases-test : (c : tie.After-outside) → outside 1 8 (c .before .before .args .header .phases) ≡ c .outside .result
-phases-test c = sym (c .outside .ensures ∙ ap (outside 1 8) (c .before .wide .ensures .0))
-
 returns : tie.Need-returns
 unfolding outOfRange
-returns c = sym (any-at _ 0 (phases-test (c .before) ∙ c .if1 .taken))
+returns c = sym (any-at _ 0 (sym (c .before .outside .ensures) ∙ c .if1 .taken))
 
 outside-requires-2 : tie.Need-outside-requires-2
 outside-requires-2 c κs = search needs
@@ -67,7 +63,7 @@ returns-7 c =
     let second = third .before .before in
     let first = second .before .before in
     last-decides (_ ∷ _ ∷ _ ∷ _ ∷ _ ∷ _ ∷ []) _ (
-    (phases-test first ∙ second .before .if1 .left)
+    (sym (first .outside .ensures) ∙ second .before .if1 .left)
     also (sym (second .outside2 .ensures) ∙ third .before .if2 .left)
     also (sym (third .outside3 .ensures) ∙ fourth .before .if3 .left)
     also (sym (fourth .outside4 .ensures) ∙ fifth .before .if4 .left)
@@ -80,7 +76,7 @@ pub out-of-range-spec : {M : Type 1} → statement M
 out-of-range-spec =
     tie.close
     (tie.spec
-    wide-requires
+    cast-outside
     outside-requires
     returns
     outside-requires-2

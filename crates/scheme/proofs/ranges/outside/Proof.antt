@@ -1,10 +1,10 @@
--- `codec::header::outside` meets its contract: the two tests are those of `outside`, in order.
+-- `scheme::ranges::outside` meets its contract: the two tests are those of `outside`, in order.
 use borrow.Author.Tests.{lt-ltb, le-ltb}
 use Rattle.scheme.specs.Rules as Rules
 use Rattle.scheme.specs.Rules.{anyTrue}
 use mathlib.Core.Bool.{or-false}
-use Rattle.codec.proofs.header.outside.Statement.{statement}
-use Rattle.codec.proofs.header.outside.Tie as tie
+use Rattle.scheme.proofs.ranges.outside.Statement.{statement}
+use Rattle.scheme.proofs.ranges.outside.Tie as tie
 
 returns : tie.Need-returns
 unfolding Rules.outside anyTrue
