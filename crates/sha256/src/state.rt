@@ -62,27 +62,50 @@ impl Sha256 {
         whole(words, &block, 64)
     }
 
+    // The state that stands for a message of one block followed by the part.
+    pub fn of_block_with(block: [u8; 64], part: &[u8]) -> Self
+        ensures { λ r. ⌜ Stands r (block ++ now (part .entry)) ⌝ }
+    {
+        let state = Self::of_block(block);
+        if part.len() < 64 {
+            return state.held(part);
+        }
+        state.update(part)
+    }
+
     // From the state that stands for m, the one that stands for m followed by the part.
     pub fn update(self, part: &[u8]) -> Self
+        ensures { λ r. ⌜ ((m : List ℕ) → Stands self m → Stands r (m ++ now (part .entry))) ⌝ }
+    {
+        let n = (self.length % 64) as usize;
+        let free = 64 - n;
+        if part.len() < free {
+            return self.held(part);
+        }
+        let length = std::num::wrapping_add_u64(self.length, part.len() as u64);
+        let words = self.words;
+        if n == 0 {
+            return whole(words, part, length);
+        }
+        let block = self.block;
+        let full = put(block, n, &part[..free]);
+        whole(blocks(words, &full), &part[free..], length)
+    }
+
+    // The same of a part that leaves the block open: nothing is hashed, so it is short enough to be compiled into its callers.
+    fn held(self, part: &[u8]) -> Self
+        requires { ⌜ self .length % 64 + length (now part) < 64 ⌝ }
         ensures { λ r. ⌜ ((m : List ℕ) → Stands self m → Stands r (m ++ now (part .entry))) ⌝ }
     {
         let n = (self.length % 64) as usize;
         let length = std::num::wrapping_add_u64(self.length, part.len() as u64);
         let words = self.words;
         let block = self.block;
-        let free = 64 - n;
-        if part.len() < free {
-            return Self {
-                words,
-                block: put(block, n, part),
-                length,
-            };
+        Self {
+            words,
+            block: put(block, n, part),
+            length,
         }
-        if n == 0 {
-            return whole(words, part, length);
-        }
-        let full = put(block, n, &part[..free]);
-        whole(blocks(words, &full), &part[free..], length)
     }
 
     // The digest of the message that the state stands for.

@@ -1,49 +1,43 @@
--- The part goes behind the bytes that the state holds (`held-append`): it leaves the block open, or it starts at a block's start,
--- or its front fills the block, which is hashed, and the rest of the part starts at a block's start.
+-- The part leaves the block open (`held`), or it starts at a block's start, or its front fills the block, which is hashed, and the rest of
+-- the part starts at a block's start.
 use borrow.Author.Needs.{needs}
 use mathlib.Core.Path.{refl, sym, ap, _∙_}
 use mathlib.Core.List.{_++_}
 use native.Mathlib.Omega.{arith}
 use denote.Ref.{now}
-use lib.ListN.{length-append, length-take}
+use lib.ListN.{length-take}
 use lib.Seq.{length-take-le}
-use Rattle.sha256.proofs.Blocks.{held-append, held-same, held-short, held-whole, length-rest, over, rest, stands-count, stands-full, stands-place, stands-put}
+use Rattle.sha256.proofs.Blocks.{held-same, held-whole, length-rest, over, stands-count, stands-full, stands-place}
 use Rattle.sha256.proofs.state.Sha256.update.Statement.{statement}
 use Rattle.sha256.proofs.state.Sha256.update.Tie as tie
-
-wrapping-add-u64-requires : tie.Need-wrapping-add-u64-requires
-wrapping-add-u64-requires c κs = search needs
 
 sub-free : tie.Need-sub-free
 sub-free c = search needs
 
-put-requires : tie.Need-put-requires
-put-requires c κs = search needs
+held-requires : tie.Need-held-requires
+held-requires c κs = search needs
 
 returns : tie.Need-returns
-returns c m h =
-    let a = c .before .before .before .before .before .before .before .args in
-    let part = now (a .part) in
-    held-append m part
-    (held-short (rest m ++ part) (omega (arith, length-append (rest m) part, stands-place m h)) (h .words)
-    (c .put .ensures ∙ stands-put m h part (omega arith))
-    (c .before .before .before .before .wrapping-add-u64 .ensures ∙ stands-count m h part))
+returns c m h = c .held .ensures m h
+
+wrapping-add-u64-requires : tie.Need-wrapping-add-u64-requires
+wrapping-add-u64-requires c κs = search needs
 
 whole-requires : tie.Need-whole-requires
 whole-requires c κs = search needs
 
 returns-2 : tie.Need-returns-2
 returns-2 c m h =
-    let a = c .before .before .before .before .before .before .before .before .args in
+    let a = c .before .before .before .before .before .before .before .args in
     let part = now (a .part) in
     held-whole m part (omega (arith, stands-place m h, length-rest m))
-    (held-same (c .whole .ensures) (h .words) (c .before .before .before .before .before .wrapping-add-u64 .ensures ∙ stands-count m h part))
+    (held-same (c .whole .ensures) (h .words) (c .before .before .before .wrapping-add-u64 .ensures ∙ stands-count m h part))
 
 slice-aggregate-put : tie.Need-slice-aggregate-put
 slice-aggregate-put c = sym (length-take-le _ _ (omega arith))
 
-put-requires-2 : tie.Need-put-requires-2
-put-requires-2 c κs = rw length-take (omega arith)
+put-requires : tie.Need-put-requires
+put-requires c κs = rw length-take (omega arith)
 
 slice-aggregate-blocks : tie.Need-slice-aggregate-blocks
 slice-aggregate-blocks c = search needs
@@ -67,22 +61,22 @@ returns-3 : tie.Need-returns-3
 returns-3 c m h =
     let a = c .before .before .before .before .before .before .before .before .before .before .before .before .before .args in
     let part = now (a .part) in
-    let count = c .before .before .before .before .before .before .before .before .before .before .wrapping-add-u64 .ensures ∙ stands-count m h part in
-    let full = c .before .before .blocks2 .ensures ∙ ap (over (a .self .words)) (c .before .before .before .before .put2 .ensures) in
+    let count = c .before .before .before .before .before .before .before .before .before .wrapping-add-u64 .ensures ∙ stands-count m h part in
+    let full = c .before .before .blocks2 .ensures ∙ ap (over (a .self .words)) (c .before .before .before .before .put .ensures) in
     stands-full m h part (omega arith) full (held-same (c .whole2 .ensures) refl count)
 
 pub update-spec : {M : Type 1} → statement M
 update-spec =
     tie.close
     (tie.spec
-    wrapping-add-u64-requires
     sub-free
-    put-requires
+    held-requires
     returns
+    wrapping-add-u64-requires
     whole-requires
     returns-2
     slice-aggregate-put
-    put-requires-2
+    put-requires
     slice-aggregate-blocks
     blocks-requires
     sub-whole
