@@ -80,14 +80,14 @@ module _ (f : Fed) (a : Account) (good : Good f a) (device logs lengths seal : L
 
       item-same : presented device seal k ≡ itemOf a k
       item-same =
-          same-item device logs (presented device seal k) (f .store) (logsLeft f a) (itemOf a k) whole whole′ same
+          same-item device logs (presented device seal k) (f .store) (logsLeft f a) (itemOf a k) whole whole′ (fields .id) same
           (cc (tagged k below, good .items k below .tag))
 
       data-same : dataOf (f .store) logs (itemOf a k) ≡ dataOf (f .store) (logsLeft f a) (itemOf a k)
       data-same =
           ap (dataOf (f .store) logs) (sym item-same)
           ∙ sym (same-data-of device (f .store) fields logs (presented device seal k))
-          ∙ same-data device logs (presented device seal k) (f .store) (logsLeft f a) (itemOf a k) whole whole′ same
+          ∙ same-data device logs (presented device seal k) (f .store) (logsLeft f a) (itemOf a k) whole whole′ (fields .id) same
 
     intact : ((k : ℕ) → k < length (a .items) → presentedMessage device logs seal k ≡ keptMessage f a k)
         → Intact f a device logs seal

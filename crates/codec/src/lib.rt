@@ -1,4 +1,4 @@
-// Reading a key store's header and checking the store, where things stand, reading and writing items and messages.
+// Reading a key store's header and checking the store, where things stand, reading items and writing their heads, and that of a ratchet message.
 pub mod header;
 pub mod items;
 pub mod layout;

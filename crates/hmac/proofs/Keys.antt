@@ -67,9 +67,14 @@ masked-length p key =
     length-map (shortened key ++ zeros) (λ k. bitXor k p) ∙
     omega (arith, shortened-fits key, length-append (shortened key) zeros, length-replicate {A = ℕ} (64 - length (shortened key)) 0)
 
--- a state that has absorbed the masked block stands for it
-pub absorbed : {s : Sha256} {b : List ℕ} (p : ℕ) (key block : List ℕ) → block ≡ padded key → b ≡ map (λ k. bitXor k p) block
-    → Stands s b → Stands s (masked p key)
-unfolding masked
-absorbed {s} p key block laid mapping stands =
-    subst (Stands s) (mapping ∙ ap (map (λ k. bitXor k p)) laid) stands
+-- a state that has absorbed the masked block stands for it, and for it with what follows
+module _ {b : List ℕ} (p : ℕ) (key block : List ℕ) (laid : block ≡ padded key) (mapping : b ≡ map (λ k. bitXor k p) block) where
+  masked-block : b ≡ masked p key
+  unfolding masked
+  masked-block = mapping ∙ ap (map (λ k. bitXor k p)) laid
+
+  pub absorbed : {s : Sha256} → Stands s b → Stands s (masked p key)
+  absorbed {s} = subst (Stands s) masked-block
+
+  pub absorbed-with : {s : Sha256} (m : List ℕ) → Stands s (b ++ m) → Stands s (masked p key ++ m)
+  absorbed-with {s} m = subst (λ l. Stands s (l ++ m)) masked-block

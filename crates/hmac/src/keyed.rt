@@ -1,6 +1,6 @@
 // A keyed state that takes a message part after part. By value, so that one key's state serves any number of messages.
 ghost use mathlib.Core.Path.{_≡_};
-ghost use mathlib.Core.List.{List, [], _++_, map};
+ghost use mathlib.Core.List.{List, _++_, map};
 ghost use Prim.Native.Nat.{ℕ};
 ghost use lib.Bits.{bitXor};
 ghost use Rattle.hmac.specs.Rfc2104 as Rfc2104;
@@ -23,15 +23,15 @@ const IPAD: u8 = 0x36;
 const OPAD: u8 = 0x5c;
 
 impl Hmac {
-    // The state that stands for the empty message under the key.
-    pub fn new(key: &[u8]) -> Self
-        ensures { λ r. ⌜ Keyed r (now (key .entry)) [] ⌝ }
+    // The state that stands for the front of a message under the key.
+    pub fn new(key: &[u8], front: &[u8]) -> Self
+        ensures { λ r. ⌜ Keyed r (now (key .entry)) (now (front .entry)) ⌝ }
     {
         let block = padded(key);
         let inner = masked(block, IPAD);
         let outer = masked(block, OPAD);
         Self {
-            inner: Sha256::of_block(inner),
+            inner: Sha256::of_block_with(inner, front),
             outer: Sha256::of_block(outer),
         }
     }

@@ -13,7 +13,7 @@ use lib.ListN.{length, getD, length-append, List·getD-append}
 use lib.Seq.{getD-append-seam}
 use borrow.Author.Tests.{ltb-true, lt-ltb, le-ltb, eq-eqb, ne-eqb}
 use Rattle.scheme.specs.Store.{entryKind, phases, chunkCount, ratchet}
-use Rattle.scheme.specs.Items.{chunkOf, offsetOf, kindOf, chunkField, dataOf, messageOf}
+use Rattle.scheme.specs.Items.{itemMessage, chunkOf, offsetOf, kindOf, chunkField, dataOf, messageOf}
 use Rattle.scheme.specs.Keys.{keyAt, tagOf}
 use Rattle.scheme.specs.Areas.{areasIn, Runs}
 use Rattle.scheme.specs.Acceptable.{KeyStore, EntryOf, FillerOf}
@@ -66,7 +66,7 @@ pub record Adds (f : Fed) (a : Account) (it : List ℕ) (logs : List (List ℕ))
 -- a made item is the one due
 pub item-due : (f : Fed) (a : Account) → Good f a → (it head bytes tag : List ℕ) (logs : List (List ℕ)) → EntryOf (f .store) it ⊎ FillerOf (f .store) it
     → (kindOf it ≡ entryKind → InLog f logs it) → Made it head (a .c) (a .r) tag
-    → tag ≡ tagOf (f .store) (dueKey f a) (head ++ bytes) → dataOf (f .store) (memoryWith f logs) it ≡ bytes → ItemAt f logs (length (a .items)) it
+    → tag ≡ tagOf (f .store) (dueKey f a) (itemMessage (f .store) head bytes) → dataOf (f .store) (memoryWith f logs) it ≡ bytes → ItemAt f logs (length (a .items)) it
 unfolding messageOf
 item-due f a good it head bytes tag logs form ranges made tagged same =
     record {
@@ -75,7 +75,7 @@ item-due f a good it head bytes tag logs form ranges made tagged same =
       chunk = made .chunk ∙ sym (due-chunk f a good);
       offset = made .offset ∙ sym (due-offset f a good);
       tag = made .tag ∙ tagged
-          ∙ sym (ap₂ (tagOf (f .store)) (ap₂ (keyAt (f .store)) (due-chunk f a good) (due-offset f a good)) (ap₂ _++_ (made .head) same));
+          ∙ sym (ap₂ (tagOf (f .store)) (ap₂ (keyAt (f .store)) (due-chunk f a good) (due-offset f a good)) (ap₂ (itemMessage (f .store)) (made .head) same));
     }
 
 module _ (f : Fed) (ok : KeyStore (f .store)) (a : Account) (good : Good f a) (it : List ℕ) (logs : List (List ℕ)) (adds : Adds f a it logs) where

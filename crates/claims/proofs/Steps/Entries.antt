@@ -12,7 +12,7 @@ use lib.Seq.{getD-set-same, getD-set-other, take-append-seam, drop-append-seam, 
 use borrow.Author.Tests.{eqb-true, eqb-false}
 use Rattle.scheme.specs.Bytes.{part}
 use Rattle.scheme.specs.Store.{dataLimit, logCapacity, phases, chunkCount}
-use Rattle.scheme.specs.Items.{entryHeadLength, entryLength, dataOf}
+use Rattle.scheme.specs.Items.{itemMessage, entryHeadLength, entryLength, dataOf}
 use Rattle.scheme.specs.Keys.{tagOf}
 use Rattle.scheme.specs.Areas.{areasIn, areaOf, Runs}
 use Rattle.scheme.proofs.Parameters.{entry-value}
@@ -42,7 +42,7 @@ pub entry-long : (f : Fed) → Begun f → (a : Account) (phase : ℕ) (bytes : 
 unfolding entryDue
 entry-long f begun a phase bytes =
     let key = dueKey f a in
-    let message = headDue a phase bytes ++ bytes in
+    let message = itemMessage (f .store) (headDue a phase bytes) bytes in
     entry-length _ _ (tagOf (f .store) key message) _ _ _
     ∙ ap (λ (n : ℕ). entryHeadLength + n) (tag-length (f .store) key message (begun .store .set .tagHigh))
     ∙ sym (entry-value (f .store))
@@ -111,7 +111,7 @@ module _ (f : Fed) (begun : Begun f) (a : Account) (good : Good f a) (phase : �
       let logs = logsWith a phase bytes in
       let long = entry-long f begun a phase bytes in
       let head = headDue a phase bytes in
-      let tag = tagOf (f .store) (dueKey f a) (head ++ bytes) in
+      let tag = tagOf (f .store) (dueKey f a) (itemMessage (f .store) head bytes) in
       let high = begun .store .set in
       let made : MadeEntry (head ++ tag) phase (length (logOf a phase)) (length bytes) =
       entry-fields _ _ tag _ _ _

@@ -10,7 +10,7 @@ use lib.Dec.{eqb}
 use lib.ListN.{length, length-append}
 use borrow.Author.Tests.{eq-eqb, ne-eqb, lt-ltb, le-ltb}
 use Rattle.scheme.specs.Store.{ratchet}
-use Rattle.scheme.specs.Items.{fillerHead, fillerHeadLength, fillerLength}
+use Rattle.scheme.specs.Items.{itemMessage, fillerHead, fillerHeadLength, fillerLength}
 use Rattle.scheme.specs.Keys.{tagOf}
 use Rattle.scheme.specs.Areas.{areasIn, none}
 use Rattle.scheme.specs.Bytes.{joined}
@@ -30,8 +30,8 @@ use Rattle.claims.proofs.Steps.StoreLeft.{chunk-below}
 pub filler-long : (f : Fed) → Begun f → (a : Account) → length (fillerDue f a) ≡ fillerLength (f .store)
 unfolding fillerDue
 filler-long f begun a =
-    filler-length _ _ (tagOf (f .store) (dueKey f a) (fillerHead (a .c) (a .r) ++ []))
-    ∙ ap (λ (n : ℕ). fillerHeadLength + n) (tag-length (f .store) (dueKey f a) (fillerHead (a .c) (a .r) ++ []) (begun .store .set .tagHigh))
+    filler-length _ _ (tagOf (f .store) (dueKey f a) (itemMessage (f .store) (fillerHead (a .c) (a .r)) []))
+    ∙ ap (λ (n : ℕ). fillerHeadLength + n) (tag-length (f .store) (dueKey f a) (itemMessage (f .store) (fillerHead (a .c) (a .r)) []) (begun .store .set .tagHigh))
     ∙ sym (filler-value (f .store))
 
 module _ (f : Fed) (begun : Begun f) (a : Account) (good : Good f a) where
@@ -41,7 +41,7 @@ module _ (f : Fed) (begun : Begun f) (a : Account) (good : Good f a) where
       let room = chunk-below f a good (begun .store) inner in
       let long = filler-long f begun a in
       let head = fillerHead (a .c) (a .r) in
-      let tag = tagOf (f .store) (dueKey f a) (head ++ []) in
+      let tag = tagOf (f .store) (dueKey f a) (itemMessage (f .store) head []) in
       let kind = filler-kind (a .c) (a .r) tag in
       record {
         room = room;

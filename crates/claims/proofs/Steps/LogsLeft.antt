@@ -2,14 +2,14 @@
 use mathlib.Core.Path.{_≡_, sym, ap, _∙_}
 use mathlib.Core.Bool.{cond}
 use mathlib.Core.Logic.{_⊎_, inl, inr}
-use mathlib.Core.List.{List, [], _++_}
+use mathlib.Core.List.{List, []}
 use Prim.Native.Nat.{ℕ, _+_, _-_, _≤_}
 use native.Mathlib.Omega.{arith}
 use lib.ListN.{length, take, drop, length-take}
 use lib.Seq.{drop-drop}
 use Rattle.scheme.specs.Bytes.{part}
 use Rattle.scheme.specs.Store.{logPlace, phases, ratchet}
-use Rattle.scheme.specs.Items.{chunkOf, offsetOf, isEntry, phaseOf, logOffset, dataLength, headOf, dataOf, messageOf}
+use Rattle.scheme.specs.Items.{itemMessage, chunkOf, offsetOf, isEntry, phaseOf, logOffset, dataLength, headOf, dataOf, messageOf}
 use Rattle.scheme.specs.Keys.{keyAt, tagOf}
 use Rattle.scheme.specs.Acceptable.{EntryOf, FillerOf}
 use Rattle.scheme.proofs.Parameters.{log-inside}
@@ -69,6 +69,6 @@ module _ (f : Fed) (begun : Begun f) (logs more : List (List ℕ)) (ok : Logs f 
         chunk = i .chunk;
         offset = i .offset;
         tag = i .tag
-            ∙ ap (λ (d : List ℕ). tagOf (f .store) (keyAt (f .store) (chunkOf (ratchet (f .store)) k) (offsetOf (ratchet (f .store)) k)) (headOf it ++ d))
+            ∙ ap (λ (d : List ℕ). tagOf (f .store) (keyAt (f .store) (chunkOf (ratchet (f .store)) k) (offsetOf (ratchet (f .store)) k)) (itemMessage (f .store) (headOf it) d))
             (data-kept k it i);
       }

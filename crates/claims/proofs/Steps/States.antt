@@ -16,7 +16,7 @@ use Rattle.scheme.specs.declared.RatchetOffset.{RatchetOffset}
 use Rattle.scheme.specs.Keys.{nextKey, keyAfter}
 use Rattle.scheme.specs.Sealer.{usedKey, stepped, grown, sealedMore, entryItem, fillerItem, burnedStore, filledState, filledSeal}
 use Rattle.scheme.proofs.Areas.{joined-last}
-use Rattle.scheme.proofs.Headers.{SameFields, same-entry-length, same-filler-length}
+use Rattle.scheme.proofs.Headers.{SameFields, same-entry-length, same-filler-length, same-ratchet-message}
 use Rattle.scheme.proofs.Tags.{same-tag}
 use Rattle.scheme.proofs.Burning.{zeroed, zeroed-later, zeroed-next}
 use Rattle.claims.specs.Account.{Fed, Account, logOf, sealReached, dueKey, entryDue, fillerDue, withItem, withData, stepOn}
@@ -32,7 +32,7 @@ use Rattle.claims.proofs.Steps.StoreLeft.{front, front-at-most, store-l
 module _ (f : Fed) (store : List ℕ) (same : SameFields store (f .store)) where
   next-due : (key : List ℕ) (r : RatchetOffset) → nextKey store key r ≡ nextKey (f .store) key r
   unfolding nextKey
-  next-due key r = rw (same .ratchet)
+  next-due key r = rw (same-ratchet-message store (f .store) same r)
 
   stepped-held : (a : Account) → a .r .0 < ratchet (f .store) → (key : List ℕ) → stepped store (dueKey f a) (holding a key) ≡ held f (stepOn f a)
   unfolding stepped keyAfter
@@ -60,7 +60,7 @@ module _ (f : Fed) (begun : Begun f) (a : Account) (good : Good f a) where
   pub entry-made : (phase : ℕ) (bytes : List ℕ) → entryItem (storeLeft f a) (held f a) phase bytes ≡ entryDue f a phase bytes
   unfolding entryItem entryDue
   entry-made phase bytes =
-      rw (used-due, eight-log (a .logs) (8 - length (a .logs)) (phase - 1), same-tag (storeLeft f a) (f .store) (left-fields f begun a good))
+      rw (used-due, eight-log (a .logs) (8 - length (a .logs)) (phase - 1), same-tag (storeLeft f a) (f .store) (left-fields f begun a good), left-fields f begun a good .id)
 
   -- the chunk of the item is burned
   pub burned-due : a .c .0 < chunkCount (f .store) → burnedStore (storeLeft f a) (held f a) ≡ zeroed (f .store) (suc (a .c .0))
@@ -113,7 +113,7 @@ module _ (f : Fed) (begun : Begun f) (store : List ℕ) (same : SameFields store
 
   filler-made : (a : Account) → 0 < a .r .0 → fillerItem store (held f a) ≡ fillerDue f a
   unfolding fillerItem fillerDue
-  filler-made a inner = rw (key-due a inner, same-tag store (f .store) same)
+  filler-made a inner = rw (key-due a inner, same-tag store (f .store) same, same .id)
 
   pub fill-state : (k : ℕ) (a : Account) → a .r .0 < ratchet (f .store) → left f a ≡ k → filledState store k (held f a) ≡ held f (fill f k a)
   unfolding filledState fill
