@@ -11,6 +11,7 @@ pub mod Parameters
 pub mod Headers
 pub mod Written
 pub mod Items
+pub mod Messages
 pub mod Tags
 pub mod Places
 pub mod Areas

@@ -11,5 +11,6 @@ pub mod State
 pub mod Sealer
 pub mod Audit
 pub mod Acceptable
+pub mod Messages
 pub mod Sizes
 pub mod Written
