@@ -6,6 +6,7 @@ pub mod Kept
 pub mod Compromise
 pub mod Honest
 pub mod Claim
+pub mod Standby
 pub mod Sets
 pub mod Plan
 pub mod Foretold

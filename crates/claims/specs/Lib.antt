@@ -1,7 +1,8 @@
--- docs/FORMAT.md, 10, 11 and 13, as definitions: the account, histories, the run of calls, the claim about all of them; plans; the marked rows.
+-- docs/FORMAT.md, 10, 11 and 13, as definitions: the account, histories, the run of calls, the claim about all of them; items of another store; plans; the marked rows.
 pub mod Account
 pub mod Run
 pub mod Claim
+pub mod Standby
 pub mod Sets
 pub mod Plan
 pub mod Rows

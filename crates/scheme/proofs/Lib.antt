@@ -19,3 +19,4 @@ pub mod Refused
 pub mod Acceptance
 pub mod Burning
 pub mod Runs
+pub mod Standby

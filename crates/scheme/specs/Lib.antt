@@ -14,3 +14,4 @@ pub mod Acceptable
 pub mod Messages
 pub mod Sizes
 pub mod Written
+pub mod Standby

@@ -1,0 +1,58 @@
+-- An item of the controller's that is accepted for a store equal to the controller's but for the id has one tag for two messages.
+use mathlib.Core.Path.{_≡_, sym, ap, _∙_}
+use mathlib.Core.List.{List, []}
+use Prim.Native.Nat.{ℕ, _<_}
+use native.Mathlib.Omega.{arith}
+use lib.ListN.{length, getD}
+use Rattle.scheme.specs.Store.{ratchet}
+use Rattle.scheme.specs.Items.{chunkOf, offsetOf, chunkField, offsetField, pieces}
+use Rattle.scheme.specs.Audit.{audit}
+use Rattle.scheme.specs.Acceptable.{Acceptable}
+use Rattle.scheme.specs.Standby.{ButIds, OneTag}
+use Rattle.scheme.proofs.Headers.{same-fields}
+use Rattle.scheme.proofs.Places.{one-number}
+use Rattle.scheme.proofs.Acceptance.{accepts, acceptable-pieces}
+use Rattle.scheme.proofs.Standby.{same-ratchet, tag-stands, accepted-twice}
+use Rattle.claims.specs.Account.{Call, Fed, Account, started, accountFrom}
+use Rattle.claims.specs.Claim.{Starts, logsLeft}
+use Rattle.claims.specs.Standby.{Standby}
+use Rattle.claims.proofs.Good.{Good, itemOf}
+use Rattle.claims.proofs.Invariant.{good}
+use Rattle.claims.proofs.Steps.Begun.{begun}
+
+module _ (f : Fed) (starts : Starts f) (a : Account) (g : Good f a) (other device logs lengths seal : List ℕ) (n : ℕ)
+    (ok : Acceptable device other logs lengths seal n) (but : ButIds (f .store) other) (k j : ℕ) (below : k < length (a .items)) (inside : j < length (pieces device seal))
+    (here : getD (pieces device seal) j [] ≡ itemOf a k) where
+  cut-so : pieces device seal ≡ ok .items
+  cut-so = acceptable-pieces device other logs lengths seal n ok
+
+  there : getD (ok .items) j [] ≡ itemOf a k
+  there = ap (λ (l : List (List ℕ)). getD l j []) (sym cut-so) ∙ here
+
+  counted : j < n
+  counted = omega (arith, inside, ap length cut-so, ok .count)
+
+  same-keys : ratchet device ≡ ratchet (f .store)
+  same-keys = same-fields device other (ok .headers) .ratchet ∙ sym (same-ratchet (f .store) other but)
+
+  one-place : j ≡ k
+  one-place =
+      let it = g .items k below in
+      let place = ok .place j counted in
+      one-number (ratchet (f .store)) j k
+      (ap (λ n. chunkOf n j) (sym same-keys) ∙ sym (place .0) ∙ ap chunkField there ∙ it .chunk)
+      (ap (λ n. offsetOf n j) (sym same-keys) ∙ sym (place .1) ∙ ap offsetField there ∙ it .offset)
+
+  one-tag : OneTag (f .store) other (logsLeft f a) logs (itemOf a k)
+  one-tag =
+      let it = g .items k below in
+      accepted-twice (f .store) other (logsLeft f a) (itemOf a k) device logs lengths seal n j (begun f starts .store) but
+      (tag-stands (f .store) (logsLeft f a) (itemOf a k) _ _ (it .chunk) (it .offset) (it .tag)) ok counted there
+
+pub standby : (f : Fed) → Starts f → (calls : List Call) → Standby f calls
+standby f starts calls other device logs lengths seal k j but accepted below inside here =
+    let n = audit device other logs lengths seal .number in
+    let ok = accepts device other logs lengths seal n (ap (λ (r : ℕ). record { refusal = r; number = n }) accepted) in
+    let a = accountFrom f (started f) calls in
+    let g = good f starts calls in
+    (one-place f starts a g other device logs lengths seal n ok but k j below inside here, one-tag f starts a g other device logs lengths seal n ok but k j below inside here)
