@@ -1,9 +1,13 @@
 // Runs the published examples through the public calls and writes one line each: name, refusal's number, bytes in hexadecimal.
 // The stored output is compared with it. Sources: NIST's examples for FIPS 180-4 with SHA-256 (one block, two blocks and
 // the additional ones within the limit), RFC 4231 for HMAC-SHA-256 (all seven cases, case 5 truncated to 128 bits, and case 2 with tags of
-// other lengths), and for the lengths around a block's end the digests that Python's hashlib (OpenSSL) gave for the bytes 0, 1, 2, ..
+// other lengths), for the lengths around a block's end the digests that Python's hashlib (OpenSSL) gave for the bytes 0, 1, 2, .., and for
+// the messages of two small stores what Python's hmac gave for docs/FORMAT.md, 3 and 5.
 ghost use mathlib.Core.Path.{_≡_};
 ghost use lib.ListN.{length};
+
+mod messages;
+
 use libc::STDOUT_FILENO;
 use sha256::state::Sha256;
 
@@ -12,6 +16,8 @@ fn main() {
     lengths();
     rfc4231();
     tag_lengths();
+    messages::device();
+    messages::standby();
 }
 
 fn nist() {
