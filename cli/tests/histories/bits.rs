@@ -3,7 +3,7 @@
 use pahyndoi::model::{Account, Call, Header, Set, plain_hmac};
 
 use crate::answer::split;
-use crate::device::Shape;
+use crate::device::{ID, Shape};
 use crate::honest;
 use crate::places::Place;
 use crate::presentation::Presentation;
@@ -98,8 +98,8 @@ fn flip_bits(
     }
 }
 
-/// The same bit of both headers. The id and a data limit that the entries keep
-/// to do not show in the items; all else must.
+/// The same bit of both headers. A data limit that the entries keep to does not
+/// show in the items; all else must, and the id in the first of them.
 fn flip_both_headers(
     case: &mut Case,
     tally: &mut Tally,
@@ -112,11 +112,14 @@ fn flip_both_headers(
             store[bit / 8] ^= 1 << (bit % 8);
         }
         case.step = format!("both headers, bit {} of byte {}", bit % 8, bit / 8);
-        let answer = changed.compare(&mut case.random, tally);
+        let answer = split(changed.compare(&mut case.random, tally));
         let new = Header::parse(&changed.device_store);
         let accepted = new.is_some_and(|new| keeps_items(header, &new));
-        assert_eq!(split(answer) == (0, ITEMS), accepted);
-        assert_eq!(split(answer).0 == 0, accepted);
+        assert_eq!(answer == (0, ITEMS), accepted);
+        assert_eq!(answer.0 == 0, accepted);
+        if ID.contains(&(bit / 8)) {
+            assert_eq!(answer, (21, 0));
+        }
     }
 }
 
@@ -125,7 +128,6 @@ fn keeps_items(old: &Header, new: &Header) -> bool {
     let longest = ENTRIES.map(|entry| entry.1).into_iter().max();
     let longest = longest.unwrap_or(0).min(old.set().data_limit as usize);
     let same = Header {
-        id: old.id,
         own_set: new.own_set.map(|set| Set {
             data_limit: old.set().data_limit,
             ..set

@@ -1,9 +1,14 @@
 //! A device: what it lends to each call, and its sealing state.
 
+use std::ops::Range;
+
 use pahyndoi::model::{Header, KEY_LENGTH, Material, Position, Set, State};
 
 use crate::random::Random;
 use crate::sets::in_effect;
+
+/// Where a store has its id.
+pub const ID: Range<usize> = 1..9;
 
 /// The bytes of the fields that both kinds of store have, and of the set behind
 /// them in one of kind 6.

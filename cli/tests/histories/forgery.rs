@@ -191,7 +191,7 @@ impl Forger {
         let mut device_store = material.store.clone();
         front(&mut device_store, burned.min(shape.chunk_count)).fill(0);
         Forger {
-            keys: all_keys(&material.store, shape),
+            keys: all_keys(&material.store),
             header: Header::parse(&material.store).expect("a store"),
             presentation: Presentation {
                 device_store,
@@ -207,9 +207,13 @@ impl Forger {
     /// its whole tag.
     fn seal_all(&self, heads: &[Head], claimed: bool) -> Vec<Item> {
         let ratchet = self.header.ratchet;
-        let whole = Set {
+        let whole_tags = Set {
             tag_length: HMAC_LENGTH as u8,
             ..self.header.set()
+        };
+        let whole = Header {
+            own_set: Some(whole_tags),
+            ..self.header
         };
         let seal = |(number, head): (usize, &Head)| {
             let place = head.position();
@@ -218,7 +222,7 @@ impl Forger {
                 false => number,
             };
             let key = self.keys.get(index).unwrap_or(&[0; KEY_LENGTH]);
-            head.seal(whole, plain_hmac, key, self.data(head))
+            head.seal(&whole, plain_hmac, key, self.data(head))
         };
         heads.iter().enumerate().map(seal).collect()
     }
@@ -245,13 +249,13 @@ impl Forger {
     }
 }
 
-fn all_keys(store: &[u8], shape: &Shape) -> Vec<[u8; KEY_LENGTH]> {
-    let ratchet = shape.ratchet as u32;
+fn all_keys(store: &[u8]) -> Vec<[u8; KEY_LENGTH]> {
+    let header = Header::parse(store).expect("a store");
     let mut keys: Vec<[u8; KEY_LENGTH]> = Vec::new();
-    for number in 0..shape.chunk_count as u32 * ratchet {
-        let place = position(number, ratchet);
+    for number in 0..header.chunk_count * header.ratchet {
+        let place = position(number, header.ratchet);
         let key = match (place.offset, keys.last()) {
-            (1.., Some(key)) => next_key(plain_hmac, key, place.offset, ratchet),
+            (1.., Some(key)) => next_key(plain_hmac, key, place.offset, &header),
             _ => chunk(store, place.chunk),
         };
         keys.push(key);

@@ -42,7 +42,7 @@ impl Case {
     pub(super) fn push(&mut self, position: Position, entry: Option<(u8, u32, u32)>) {
         let header = Header::parse(&self.auditor_store).expect("a store");
         let chunk = chunk(&self.auditor_store, position.chunk);
-        let key = key_at(plain_hmac, chunk, position.offset, header.ratchet);
+        let key = key_at(plain_hmac, chunk, position.offset, &header);
         let (head, data) = match entry {
             None => (Head::Filler { position }, &[][..]),
             Some((phase, offset, length)) => (
@@ -55,7 +55,7 @@ impl Case {
                 self.data(&header, phase, offset, length),
             ),
         };
-        let item = head.seal(header.set(), plain_hmac, &key, data);
+        let item = head.seal(&header, plain_hmac, &key, data);
         self.seal_file.extend(item.to_bytes());
     }
 

@@ -8,20 +8,24 @@ mod planning;
 mod rows;
 mod sealing;
 mod set;
+mod standby;
 mod tag;
 
 use super::*;
+
+/// The id of the stores.
+const ID: [u8; 8] = [1, 2, 3, 4, 5, 6, 7, 8];
 
 /// An unused store of kind 1.
 fn store(phases: u8, chunk_count: u32, ratchet: u32) -> Vec<u8> {
     store_of(None, phases, chunk_count, ratchet)
 }
 
-/// An unused store, of kind 6 where it has a set of its own: an id of 1 to 8 and
-/// chunks without a zero byte.
+/// An unused store, of kind 6 where it has a set of its own: chunks without a
+/// zero byte.
 fn store_of(own_set: Option<Set>, phases: u8, chunk_count: u32, ratchet: u32) -> Vec<u8> {
     let kind = if own_set.is_some() { 6 } else { 1 };
-    let mut store = vec![kind, 1, 2, 3, 4, 5, 6, 7, 8, phases];
+    let mut store = [&[kind], &ID[..], &[phases]].concat();
     store.extend(chunk_count.to_le_bytes());
     store.extend(ratchet.to_le_bytes());
     if let Some(set) = own_set {

@@ -63,18 +63,81 @@ fn bytes_of_a_filler() {
     assert_head(head, &[3, 2, 0, 0, 0, 2, 0, 0, 0]);
 }
 
+/// An id of zeros, and another.
+const IDS: [[u8; 8]; 2] = [[0; 8], [0xc1, 0, 0, 0xa7, 2, 4, 0, 0xff]];
+
+/// That of a store with three keys from each chunk.
+fn header_of(id: [u8; 8]) -> Header {
+    let header = Header::parse(&store(1, 1, 3)).expect("a store");
+    Header { id, ..header }
+}
+
 #[test]
 fn bytes_of_a_ratchet_message() {
-    assert_eq!(ratchet_message(1, 3), [4, 1, 0, 0, 0, 3, 0, 0, 0]);
+    let about = [4, 1, 0, 0, 0, 3, 0, 0, 0];
+    assert_eq!(ratchet_message(1, 3), about);
+    for id in IDS {
+        let whole = header_of(id).message(&about, &[]).concat();
+        assert_eq!(whole, [&id[..], &about].concat());
+        assert_eq!(whole.len(), 17);
+    }
+}
+
+/// The head behind the id, and the data behind the head.
+#[test]
+fn tags_of_items() {
+    let entry = Head::Entry {
+        phase: 2,
+        offset: 5,
+        length: 3,
+        position: ITEM_7,
+    };
+    let filler = Head::Filler { position: ITEM_8 };
+    let messages: [(Head, &[u8], &[u8]); 2] = [
+        (
+            entry,
+            b"abc",
+            b"\x02\x02\x05\0\0\0\x03\0\0\0\x02\0\0\0\x01\0\0\0abc",
+        ),
+        (filler, b"", b"\x03\x02\0\0\0\x02\0\0\0"),
+    ];
+    let key = [7; KEY_LENGTH];
+    for id in IDS {
+        for (head, data, behind_id) in messages {
+            let message = [&id[..], behind_id].concat();
+            let item = head.seal(&header_of(id), plain_hmac, &key, data);
+            assert_eq!(item.head, head);
+            assert_eq!(item.tag, crate::plain::hmac_sha256(&key, &message));
+        }
+    }
 }
 
 #[test]
 fn keys_of_a_chunk() {
     let chunk = [7; KEY_LENGTH];
-    let second = plain_hmac(&chunk, &[&ratchet_message(1, 3)]);
-    let third = plain_hmac(&second, &[&ratchet_message(2, 3)]);
-    let keys = [0, 1, 2].map(|offset| key_at(plain_hmac, chunk, offset, 3));
-    assert_eq!(keys, [chunk, second, third]);
+    for id in IDS {
+        let step = |key: &[u8; KEY_LENGTH], offset: u8| {
+            let message = [&id[..], &[4, offset, 0, 0, 0, 3, 0, 0, 0]].concat();
+            crate::plain::hmac_sha256(key, &message)
+        };
+        let second = step(&chunk, 1);
+        let third = step(&second, 2);
+        let keys = [0, 1, 2].map(|offset| key_at(plain_hmac, chunk, offset, &header_of(id)));
+        assert_eq!(keys, [chunk, second, third]);
+    }
+}
+
+/// A chunk is the first key of each store that has it; the keys above it are
+/// of one store.
+#[test]
+fn keys_of_one_chunk_under_two_ids() {
+    let chunk = [7; KEY_LENGTH];
+    let keys = |offset| IDS.map(|id| key_at(plain_hmac, chunk, offset, &header_of(id)));
+    assert_eq!(keys(0), [chunk; 2]);
+    for offset in [1, 2] {
+        let [one, other] = keys(offset);
+        assert_ne!(one, other);
+    }
 }
 
 #[test]

@@ -241,7 +241,8 @@ fn effect_of_append() {
     let chunk = chunk(&unused.material.store, 0);
     assert_eq!(device.append(2, b"abc"), (0, 0));
     let head = [2, 2, 0, 0, 0, 0, 3, 0, 0, 0, 0, 0, 0, 0, 0, 0, 0, 0];
-    let tag = crate::plain::hmac_sha256(&chunk, &[&head[..], b"abc"].concat());
+    let tag = crate::plain::hmac_sha256(&chunk, &[&ID[..], &head, b"abc"].concat());
+    let ratchet_message = [&ID[..], &[4, 1, 0, 0, 0, 2, 0, 0, 0]].concat();
     let mut expected = unused;
     expected.material.store[18..50].fill(0);
     expected.material.log_memory[8192..8195].copy_from_slice(b"abc");
@@ -252,7 +253,7 @@ fn effect_of_append() {
             chunk: 0,
             offset: 1,
         },
-        held_key: key_at(plain_hmac, chunk, 1, 2),
+        held_key: crate::plain::hmac_sha256(&chunk, &ratchet_message),
         log_lengths: [0, 3, 0, 0, 0, 0, 0, 0],
         seal_length: 50,
     };

@@ -110,7 +110,7 @@ fn headers_read_back() {
     for own_set in own_sets.into_iter().chain([None]) {
         let store = store_of(own_set, 3, 4, 5);
         let header = Header {
-            id: [1, 2, 3, 4, 5, 6, 7, 8],
+            id: ID,
             phases: 3,
             chunk_count: 4,
             ratchet: 5,
@@ -192,11 +192,13 @@ fn effect_of_append() {
         let chunk = chunk(&device.material.store, 0);
         assert_eq!(device.append(1, b"abc"), (0, 0));
         let head = [2, 1, 0, 0, 0, 0, 3, 0, 0, 0, 0, 0, 0, 0, 0, 0, 0, 0];
-        let whole = crate::plain::hmac_sha256(&chunk, &[&head[..], b"abc"].concat());
+        let whole = crate::plain::hmac_sha256(&chunk, &[&ID[..], &head, b"abc"].concat());
         let tag = &whole[..usize::from(tag_length)];
         assert_eq!(device.seal_file(), [&head[..], tag].concat());
         assert_eq!(device.material.seal_memory[device.seal_file().len()], 0xdd);
-        assert_eq!(device.state.held_key, key_at(plain_hmac, chunk, 1, 2));
+        let ratchet_message = [&ID[..], &[4, 1, 0, 0, 0, 2, 0, 0, 0]].concat();
+        let next = crate::plain::hmac_sha256(&chunk, &ratchet_message);
+        assert_eq!(device.state.held_key, next);
     }
 }
 

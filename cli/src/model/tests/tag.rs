@@ -43,11 +43,12 @@ fn tags_of_items_are_cut_and_keys_are_whole() {
             tag_length,
             ..Set::COMMON
         };
+        let header = Header::parse(&store_of(Some(set), 1, 1, 2)).expect("a store");
         let position = Position::default();
-        let item = Head::Filler { position }.seal(set, numbered, b"key", &[]);
+        let item = Head::Filler { position }.seal(&header, numbered, b"key", &[]);
         assert_eq!(item.tag, whole[..usize::from(tag_length)]);
+        assert_eq!(next_key(numbered, b"key", 1, &header), whole);
     }
-    assert_eq!(next_key(numbered, b"key", 1, 2), whole);
 }
 
 #[test]

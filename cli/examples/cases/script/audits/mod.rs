@@ -107,15 +107,15 @@ impl Case {
 
     /// An item that names a position, sealed with the key of a position.
     fn item(&self, named: Position, key: Position, item: Wanted) -> Item {
+        let header = self.header();
         let key = key_at(
             plain_hmac,
             chunk(&self.auditor_store, key.chunk),
             key.offset,
-            self.ratchet(),
+            &header,
         );
-        let set = self.header().set();
         match item {
-            None => Head::Filler { position: named }.seal(set, plain_hmac, &key, &[]),
+            None => Head::Filler { position: named }.seal(&header, plain_hmac, &key, &[]),
             Some((phase, offset, length)) => {
                 let head = Head::Entry {
                     phase,
@@ -123,7 +123,7 @@ impl Case {
                     length,
                     position: named,
                 };
-                head.seal(set, plain_hmac, &key, self.data(phase, offset, length))
+                head.seal(&header, plain_hmac, &key, self.data(phase, offset, length))
             }
         }
     }
