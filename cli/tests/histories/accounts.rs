@@ -8,7 +8,7 @@ use crate::calls::{self, assert_same_material};
 use crate::device::{Device, Shape};
 use crate::lent::Stand;
 use crate::library;
-use crate::presentation::{Presentation, length_bytes};
+use crate::presentation::Presentation;
 use crate::random::{Case, Random};
 use crate::tally::Tally;
 
@@ -147,15 +147,12 @@ impl Recorded {
     /// Untouched material is accepted with the true count, but for a chunk
     /// that is still half used.
     fn audit(&self, random: &mut Random, tally: &mut Tally) {
-        let seal_length = self.account.seal_length() as usize;
-        let left = &self.device.material;
-        let presentation = Presentation {
-            device_store: left.store.clone(),
-            auditor_store: self.start.store.clone(),
-            log_memory: left.log_memory.clone(),
-            length_bytes: length_bytes(&self.account.log_lengths()),
-            seal_file: left.seal_memory[..seal_length].to_vec(),
-        };
+        let presentation = Presentation::left(
+            &self.start,
+            &self.device.material,
+            &self.account.log_lengths(),
+            self.account.seal_length(),
+        );
         let answer = presentation.compare(random, tally);
         let expected = match self.is_half_way() {
             true => (22, 0),

@@ -3,7 +3,7 @@
 use pahyndoi::model::{Account, Call, Item, Material, Set, plain_hmac};
 
 use crate::device::Shape;
-use crate::presentation::{Presentation, length_bytes};
+use crate::presentation::Presentation;
 use crate::random::Random;
 
 /// A history's material, with its items apart.
@@ -37,20 +37,10 @@ pub fn random_pair(random: &mut Random, own_set: Option<Set>) -> (Honest, Honest
     (first, random_history(random, &start, &shape, count))
 }
 
-/// This many appends, or until the keys are spent, some closes among them and
-/// mostly one at the end.
+/// These calls, mostly with a close at the end.
 fn random_history(random: &mut Random, start: &Material, shape: &Shape, count: usize) -> Honest {
     let mut account = Account::start(start).expect("an unused store");
-    let longest = shape.set().data_limit as usize;
-    for _ in 0..count {
-        if random.once_in(12) {
-            account.call(plain_hmac, &Call::Close);
-        }
-        let length = random.pick(&[1, 2, 7, 16, 30, 46, 47, 110, longest]);
-        let call = Call::Append {
-            phase: random.between(1, shape.phases) as u8,
-            data: random.bytes(length.min(longest)),
-        };
+    for call in random_calls(random, shape, count) {
         account.call(plain_hmac, &call);
     }
     if !random.once_in(10) {
@@ -59,19 +49,33 @@ fn random_history(random: &mut Random, start: &Material, shape: &Shape, count: u
     of_account(start, shape.set(), &account)
 }
 
+/// This many appends, some closes among them.
+pub fn random_calls(random: &mut Random, shape: &Shape, count: usize) -> Vec<Call> {
+    let longest = shape.set().data_limit as usize;
+    let mut calls = Vec::new();
+    for _ in 0..count {
+        if random.once_in(12) {
+            calls.push(Call::Close);
+        }
+        let length = random.pick(&[1, 2, 7, 16, 29, 30, 46, 47, 110, longest]);
+        calls.push(Call::Append {
+            phase: random.between(1, shape.phases) as u8,
+            data: random.bytes(length.min(longest)),
+        });
+    }
+    calls
+}
+
 /// Untouched material.
 pub fn of_account(start: &Material, set: Set, account: &Account) -> Honest {
-    let left = account.material();
-    let presentation = Presentation {
-        device_store: left.store,
-        auditor_store: start.store.clone(),
-        log_memory: left.log_memory,
-        length_bytes: length_bytes(&account.log_lengths()),
-        seal_file: account.seal_file(),
-    };
     Honest {
         set,
-        presentation,
+        presentation: Presentation::left(
+            start,
+            &account.material(),
+            &account.log_lengths(),
+            account.seal_length(),
+        ),
         items: account.items().to_vec(),
     }
 }

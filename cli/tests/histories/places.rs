@@ -9,25 +9,30 @@ use crate::random::Random;
 /// A phase and an offset in its log.
 pub type Place = (u8, u32);
 
+/// The items of a seal file, as far as it can be read.
+pub fn items(set: Set, seal_file: &[u8]) -> Vec<Item> {
+    let mut items = Vec::new();
+    let mut rest = seal_file;
+    while let Some(item) = Item::parse(set, rest) {
+        rest = &rest[item.byte_count()..];
+        items.push(item);
+    }
+    items
+}
+
 /// The entries of a seal file by item number, as far as it can be read.
 pub fn entries(set: Set, seal_file: &[u8]) -> Vec<(u32, Area)> {
-    let mut entries = Vec::new();
-    let mut rest = seal_file;
-    let mut number = 0;
-    while let Some(item) = Item::parse(set, rest) {
-        if let Head::Entry {
+    let numbered = (0..).zip(items(set, seal_file));
+    let entry = |(number, item): (u32, Item)| match item.head {
+        Head::Entry {
             phase,
             offset,
             length,
             ..
-        } = item.head
-        {
-            entries.push((number, (phase, offset, length)));
-        }
-        rest = &rest[item.byte_count()..];
-        number += 1;
-    }
-    entries
+        } => Some((number, (phase, offset, length))),
+        Head::Filler { .. } => None,
+    };
+    numbered.filter_map(entry).collect()
 }
 
 /// One byte anywhere, one at the edge of a log, and one near an entry.

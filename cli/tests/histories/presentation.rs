@@ -1,6 +1,6 @@
 //! What is presented to the audit; audit and lookups by library and model.
 
-use pahyndoi::model::{Audited, Presented, log_lengths, plain_hmac};
+use pahyndoi::model::{Audited, Material as Lends, Presented, log_lengths, plain_hmac};
 use pahyndoi::{Material, audit_raw};
 
 use crate::answer::{is_accepted, split};
@@ -28,6 +28,17 @@ pub fn length_bytes(lengths: &[u32]) -> Vec<u8> {
 }
 
 impl Presentation {
+    /// What calls on an unused store left, untouched.
+    pub fn left(unused: &Lends, left: &Lends, log_lengths: &[u32], seal_length: u64) -> Self {
+        Presentation {
+            device_store: left.store.clone(),
+            auditor_store: unused.store.clone(),
+            log_memory: left.log_memory.clone(),
+            length_bytes: length_bytes(log_lengths),
+            seal_file: left.seal_memory[..seal_length as usize].to_vec(),
+        }
+    }
+
     /// Audits by both, looks some bytes up by both, notes the answers and
     /// gives the audit's. Fails where they differ or where the library wrote.
     pub fn compare(&self, random: &mut Random, tally: &mut Tally) -> u64 {
