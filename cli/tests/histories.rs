@@ -38,6 +38,8 @@ mod lent;
 mod library;
 #[path = "histories/lookups.rs"]
 mod lookups;
+#[path = "histories/messages.rs"]
+mod messages;
 #[path = "histories/mishap.rs"]
 mod mishap;
 #[path = "histories/places.rs"]
@@ -56,6 +58,8 @@ mod requests;
 mod rows;
 #[path = "histories/sets.rs"]
 mod sets;
+#[path = "histories/standby.rs"]
+mod standby;
 #[path = "histories/tally.rs"]
 mod tally;
 
@@ -311,6 +315,46 @@ fn tags_cannot_be_cut_or_lengthened() {
     }
     tallies.print();
     tallies.assert_met("audit", &[15, 21], 20);
+}
+
+/// Two stores with equal chunks: what is sealed with the one is nothing to the
+/// other.
+#[test]
+fn standby_cannot_stand_in() {
+    let run = Run::new(500);
+    let mut tallies = Tallies::default();
+    for mut case in run.each() {
+        let tally = tallies.of(case.own_set);
+        case.step = "sealed by the calls".to_string();
+        standby::check_sealed(&mut case.random, tally, case.own_set);
+        case.step = "forged".to_string();
+        standby::check_forged(&mut case.random, tally, case.own_set);
+    }
+    tallies.print();
+    if run.whole {
+        tallies.assert_met("audit", &[0, 13, 21], run.cases);
+        for counted in standby::KINDS_EXCHANGED {
+            tallies.assert_more(counted, run.cases / 4);
+        }
+        tallies.assert_more(standby::SEAL_FILES, run.cases);
+        tallies.assert_more(standby::IDS, run.cases);
+    }
+}
+
+/// By somebody who knows every key, but puts messages together in another way.
+#[test]
+fn messages_begin_with_the_id() {
+    let mut case = Run::new(1).case(0);
+    let mut tallies = Tallies::default();
+    for own_set in sets::none_and_corners() {
+        case.step = format!("{own_set:?}");
+        standby::check_rules(&mut case.random, tallies.of(own_set), own_set);
+    }
+    tallies.print();
+    tallies.assert_all_met("audit", &[0, 21], 20);
+    for counted in standby::KINDS_EXCHANGED {
+        tallies.assert_more(counted, 20);
+    }
 }
 
 #[test]

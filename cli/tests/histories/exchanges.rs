@@ -20,16 +20,16 @@ const ITEMS: usize = 4;
 
 /// The stores that are changed.
 #[derive(Clone, Copy, Debug, PartialEq, Eq)]
-enum Stores {
+pub enum Stores {
     Device,
     Auditor,
     Both,
 }
 
 impl Stores {
-    const ALL: [Stores; 3] = [Stores::Device, Stores::Auditor, Stores::Both];
+    pub const ALL: [Stores; 3] = [Stores::Device, Stores::Auditor, Stores::Both];
 
-    fn change(self, material: &mut Presentation, change: impl Fn(&mut Vec<u8>)) {
+    pub fn change(self, material: &mut Presentation, change: impl Fn(&mut Vec<u8>)) {
         if self != Stores::Auditor {
             change(&mut material.device_store);
         }

@@ -2,12 +2,12 @@
 //! tags are right.
 
 use pahyndoi::model::{
-    HMAC_LENGTH, Head, Header, Item, KEY_LENGTH, Position, Set, chunk, next_key, plain_hmac,
-    position,
+    Head, Header, Item, KEY_LENGTH, Material, Position, Set, chunk, position, ratchet_message,
 };
 
 use crate::areas::{Area, random_areas, spoil};
 use crate::device::{Shape, front};
+use crate::messages::{Message, Rules};
 use crate::presentation::{Presentation, length_bytes};
 use crate::random::Random;
 use crate::sets::in_effect;
@@ -44,7 +44,7 @@ fn forge(
     let mut heads = heads(&areas, ratchet as u32);
     let shape = shape(random, own_set, burned, ratchet, lengths);
     let claimed = alter_position(random, &mut heads, &shape);
-    let forger = Forger::new(random, &shape, burned, lengths);
+    let forger = Forger::new(&shape.material(random), burned, lengths, Rules::RIGHT);
     let mut items = forger.seal_all(&heads, claimed);
     alter_tags(random, shape.set(), &mut items);
     forger.present(&items)
@@ -70,8 +70,22 @@ pub fn seal_with_tags(
     tags: &[usize],
 ) -> Presentation {
     let shape = shape(random, own_set, areas.len(), 1, lengths);
-    let forger = Forger::new(random, &shape, areas.len(), lengths);
-    let mut items = forger.seal_all(&heads(areas, 1), false);
+    seal_by(&shape.material(random), lengths, areas, tags, Rules::RIGHT)
+}
+
+/// Seals the areas in their places under the keys of an unused store, with a
+/// tag length for each item, by these rules.
+pub fn seal_by(
+    unused: &Material,
+    lengths: &[u32],
+    areas: &[Option<Area>],
+    tags: &[usize],
+    rules: Rules,
+) -> Presentation {
+    let ratchet = Header::parse(&unused.store).expect("a store").ratchet;
+    let burned = areas.len().div_ceil(ratchet as usize);
+    let forger = Forger::new(unused, burned, lengths, rules);
+    let mut items = forger.seal_all(&heads(areas, ratchet), false);
     cut_tags(&mut items, tags);
     forger.present(&items)
 }
@@ -179,6 +193,7 @@ fn alter_position(random: &mut Random, heads: &mut [Head], shape: &Shape) -> boo
 }
 
 struct Forger {
+    rules: Rules,
     presentation: Presentation,
     /// The key of each number that the store has one for.
     keys: Vec<[u8; KEY_LENGTH]>,
@@ -186,17 +201,18 @@ struct Forger {
 }
 
 impl Forger {
-    fn new(random: &mut Random, shape: &Shape, burned: usize, lengths: &[u32]) -> Forger {
-        let material = shape.material(random);
-        let mut device_store = material.store.clone();
-        front(&mut device_store, burned.min(shape.chunk_count)).fill(0);
+    fn new(unused: &Material, burned: usize, lengths: &[u32], rules: Rules) -> Forger {
+        let header = Header::parse(&unused.store).expect("a store");
+        let mut device_store = unused.store.clone();
+        front(&mut device_store, burned.min(header.chunk_count as usize)).fill(0);
         Forger {
-            keys: all_keys(&material.store),
-            header: Header::parse(&material.store).expect("a store"),
+            rules,
+            keys: all_keys(&unused.store, &header, rules.ratchet),
+            header,
             presentation: Presentation {
                 device_store,
-                auditor_store: material.store,
-                log_memory: material.log_memory,
+                auditor_store: unused.store.clone(),
+                log_memory: unused.log_memory.clone(),
                 length_bytes: length_bytes(lengths),
                 seal_file: Vec::new(),
             },
@@ -207,14 +223,6 @@ impl Forger {
     /// its whole tag.
     fn seal_all(&self, heads: &[Head], claimed: bool) -> Vec<Item> {
         let ratchet = self.header.ratchet;
-        let whole_tags = Set {
-            tag_length: HMAC_LENGTH as u8,
-            ..self.header.set()
-        };
-        let whole = Header {
-            own_set: Some(whole_tags),
-            ..self.header
-        };
         let seal = |(number, head): (usize, &Head)| {
             let place = head.position();
             let index = match claimed && place.offset < ratchet && place.chunk < 1024 {
@@ -222,7 +230,12 @@ impl Forger {
                 false => number,
             };
             let key = self.keys.get(index).unwrap_or(&[0; KEY_LENGTH]);
-            head.seal(&whole, plain_hmac, key, self.data(head))
+            let message = self.rules.items;
+            let tag = message.tag(&self.header.id, key, &head.to_bytes(), self.data(head));
+            Item {
+                head: *head,
+                tag: tag.to_vec(),
+            }
         };
         heads.iter().enumerate().map(seal).collect()
     }
@@ -249,13 +262,15 @@ impl Forger {
     }
 }
 
-fn all_keys(store: &[u8]) -> Vec<[u8; KEY_LENGTH]> {
-    let header = Header::parse(store).expect("a store");
+fn all_keys(store: &[u8], header: &Header, message: Message) -> Vec<[u8; KEY_LENGTH]> {
     let mut keys: Vec<[u8; KEY_LENGTH]> = Vec::new();
     for number in 0..header.chunk_count * header.ratchet {
         let place = position(number, header.ratchet);
         let key = match (place.offset, keys.last()) {
-            (1.., Some(key)) => next_key(plain_hmac, key, place.offset, &header),
+            (1.., Some(key)) => {
+                let about = ratchet_message(place.offset, header.ratchet);
+                message.tag(&header.id, key, &about, &[])
+            }
             _ => chunk(store, place.chunk),
         };
         keys.push(key);
