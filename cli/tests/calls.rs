@@ -224,6 +224,30 @@ fn rejected_names_rule_and_item() {
     }
 }
 
+/// The same chunks under another id, and the same entries.
+#[test]
+fn items_of_a_standby_are_rejected() {
+    for mut device in devices(200) {
+        let mut standby = device.kind.device(200);
+        standby.store[8] ^= 1;
+        for sealing in [&mut device, &mut standby] {
+            sealing.append(1, b"first").expect("a free key");
+            sealing.append(1, b"second").expect("a free key");
+        }
+        assert_eq!(device.audit(), Ok(2));
+        assert_eq!(standby.audit(), Err(rejected(13)));
+        let at_item = |number| Rejected {
+            item: Some(number),
+            ..rejected(21)
+        };
+        let second = device.kind.entry_length as usize;
+        device.seal[second..].copy_from_slice(&standby.seal[second..]);
+        assert_eq!(device.audit(), Err(at_item(1)));
+        device.seal = standby.seal;
+        assert_eq!(device.audit(), Err(at_item(0)));
+    }
+}
+
 #[test]
 fn lookups_name_the_item_and_its_data() {
     for mut device in devices(200) {
