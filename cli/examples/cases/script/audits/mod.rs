@@ -6,6 +6,7 @@ mod histories;
 mod items;
 mod order;
 mod presented;
+mod standby;
 mod waiting;
 
 use pahyndoi::model::{Head, Header, Item, Position, chunk, key_at, plain_hmac, position};
@@ -20,6 +21,7 @@ pub(super) fn groups(script: &mut Script) {
     items::groups(script);
     endings::groups(script);
     order::groups(script);
+    standby::groups(script);
 }
 
 /// An entry by phase, offset and data length, or a filler.
