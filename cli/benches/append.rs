@@ -19,9 +19,12 @@ use sets::{LONG_ENTRIES, SHORT_TAGS};
 use store::unused_store;
 use timing::{Contender, minimum_times};
 
-/// The set that the store names, none in kind 1, and the length of the data.
-const ROWS: [(Option<Set>, usize); 7] = [
+/// The set that the store names, none in kind 1, and the length of the data. Id,
+/// head, 29 bytes of data and the padding fit one block; with 30 they do not.
+const ROWS: [(Option<Set>, usize); 9] = [
     (None, 16),
+    (None, 29),
+    (None, 30),
     (None, 64),
     (None, 512),
     (Some(SHORT_TAGS), 16),
