@@ -1,18 +1,24 @@
 //! Section 12: every block and every answer is what the proved calls give.
 
 use std::collections::BTreeMap;
+use std::ops::Range;
 
-use pahyndoi::model::ratchet_message;
 use pahyndoi::{LONGEST_TAG, State, append_raw, audit_raw, close_raw, hmac_sha256, open_raw};
 
 use crate::page;
 
 const EXAMPLE: u32 = 12;
+const ID: &[u8] = b"device 7";
+const STANDBY_ID: &[u8] = b"device 8";
 const DATA: &[u8] = b"07:00 164";
 const HEADER_LENGTH: usize = 18;
+const ID_PLACE: Range<usize> = 1..9;
 const ENTRY_HEAD_LENGTH: usize = 18;
 const ENTRY_LENGTH: usize = 50;
 const FILLER_HEAD_LENGTH: usize = 9;
+
+/// Kind, offset 1 and N, behind the id.
+const RATCHET_HEAD: [u8; 9] = [4, 1, 0, 0, 0, 2, 0, 0, 0];
 
 const LOG_CAPACITY: usize = 8192;
 const SMALL_LOG_CAPACITY: usize = 512;
@@ -21,7 +27,7 @@ const SMALL_LOG_CAPACITY: usize = 512;
 fn store_of(kind: u8, set: &[u8]) -> Vec<u8> {
     let counts = [1, 1, 0, 0, 0, 2, 0, 0, 0];
     let chunk: Vec<u8> = (0x20..0x40).collect();
-    [&[kind], &b"device 7"[..], &counts, set, &chunk].concat()
+    [&[kind], ID, &counts, set, &chunk].concat()
 }
 
 fn unused_store() -> Vec<u8> {
@@ -73,7 +79,14 @@ impl Run {
     }
 
     fn on(unused: Vec<u8>, log_capacity: usize) -> Run {
-        let mut run = Run {
+        let mut run = Run::begun(unused, log_capacity);
+        run.sealed();
+        run.audited();
+        run
+    }
+
+    fn begun(unused: Vec<u8>, log_capacity: usize) -> Run {
+        Run {
             store: unused.clone(),
             unused,
             logs: vec![0; log_capacity],
@@ -81,10 +94,17 @@ impl Run {
             state: State::default(),
             blocks: BTreeMap::new(),
             answers: Vec::new(),
-        };
-        run.sealed();
-        run.audited();
-        run
+        }
+    }
+
+    /// The seal file of a standby that has appended the same data.
+    fn of_the_standby(&self) -> Vec<u8> {
+        let mut unused = self.unused.clone();
+        unused[ID_PLACE].copy_from_slice(STANDBY_ID);
+        let mut standby = Run::begun(unused, self.logs.len());
+        standby.open();
+        standby.append("append");
+        standby.seal_file()
     }
 
     fn block(&mut self, label: &str, bytes: Vec<u8>) {
@@ -159,15 +179,18 @@ impl Run {
         let (entry, filler) = seal_file.split_at(ENTRY_LENGTH);
         let (entry_head, entry_tag) = entry.split_at(ENTRY_HEAD_LENGTH);
         let (filler_head, filler_tag) = filler.split_at(FILLER_HEAD_LENGTH);
-        let message = [entry_head, DATA].concat();
         self.block(
             "key of item 0",
             self.unused.clone().split_off(HEADER_LENGTH),
         );
-        self.block("message of item 0", message);
+        self.block("message of item 0", [ID, entry_head, DATA].concat());
         self.block("tag of item 0", entry_tag.to_vec());
-        self.block("ratchet message", ratchet_message(1, 2));
-        self.block("message of item 1", filler_head.to_vec());
+        let standby_item = self.of_the_standby();
+        let (standby_head, standby_tag) = standby_item.split_at(ENTRY_HEAD_LENGTH);
+        assert_eq!(standby_head, entry_head);
+        self.block("tag of item 0 of the standby", standby_tag.to_vec());
+        self.block("ratchet message", [ID, &RATCHET_HEAD].concat());
+        self.block("message of item 1", [ID, filler_head].concat());
         self.block("tag of item 1", filler_tag.to_vec());
     }
 
@@ -175,14 +198,22 @@ impl Run {
         let lengths = self.state.lengths[0].to_le_bytes();
         self.block("log lengths", lengths.to_vec());
         self.audit("audit");
-        self.logs[0] = 0x31;
+        let byte = std::mem::replace(&mut self.logs[0], 0x31);
         self.audit("audit with the changed byte");
+        self.logs[0] = byte;
+        let item = self.of_the_standby();
+        let rest = self.seal_file().split_off(item.len());
+        self.audit_of("audit with the standby's item", &[item, rest].concat());
     }
 
     fn audit(&mut self, call: &'static str) {
+        self.audit_of(call, &self.seal_file());
+    }
+
+    fn audit_of(&mut self, call: &'static str, seal_file: &[u8]) {
         let Run { store, logs, .. } = &self;
         let lengths = self.state.lengths[0].to_le_bytes();
-        let answer = audit_raw(store, &self.unused, logs, &lengths, &self.seal_file());
+        let answer = audit_raw(store, &self.unused, logs, &lengths, seal_file);
         self.answer(call, answer);
     }
 }
@@ -213,7 +244,8 @@ fn every_block_is_what_the_calls_give() {
     }
 }
 
-/// The messages and keys of the page make its tags and its second key.
+/// The messages and keys of the page make its tags and its second key; with the
+/// standby's id in front the first message makes the standby's tag.
 #[test]
 fn tags_and_keys_follow_from_messages() {
     let page = page::blocks(page::section(EXAMPLE));
@@ -222,8 +254,12 @@ fn tags_and_keys_follow_from_messages() {
         let message = &page[&format!("message of item {item}")];
         assert_eq!(page[&format!("tag of item {item}")], tag(key, message));
     }
-    let next = tag(&page["key of item 0"], &page["ratchet message"]);
+    let first = &page["key of item 0"];
+    let next = tag(first, &page["ratchet message"]);
     assert_eq!(page["key of item 1"], next);
+    let behind_the_id = &page["message of item 0"][ID.len()..];
+    let standby = tag(first, &[STANDBY_ID, behind_the_id].concat());
+    assert_eq!(page["tag of item 0 of the standby"], standby);
 }
 
 #[test]
