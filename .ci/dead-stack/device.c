@@ -2,7 +2,7 @@
 
 #include <string.h>
 
-enum { ENTRY_KIND = 2, RATCHET_KIND = 4, HEAD_SIZE = 18 };
+enum { ENTRY_KIND = 2, RATCHET_KIND = 4, ID_SIZE = 8, HEAD_SIZE = 18, RATCHET_HEAD_SIZE = 9 };
 
 #if PAHYNDOI_ENTRY_SIZE_OF(PAHYNDOI_TAG_SIZE) != PAHYNDOI_ENTRY_SIZE || \
     PAHYNDOI_FILLER_SIZE_OF(PAHYNDOI_TAG_SIZE) != PAHYNDOI_FILLER_SIZE
@@ -72,6 +72,13 @@ void put_set(uint8_t *of_store, const struct set *parameters)
     put_number(of_store + 23, parameters->log_capacity);
 }
 
+/* Every message begins with the id of the store; answers where it goes on. */
+static uint8_t *begin_message(uint8_t *message)
+{
+    memcpy(message, auditor + 1, ID_SIZE);
+    return message + ID_SIZE;
+}
+
 /* The keys of each chunk: the chunk, then each the HMAC of the ratchet message under the one
    before. */
 static void make_keys(uint32_t ratchet)
@@ -82,9 +89,11 @@ static void make_keys(uint32_t ratchet)
         if (k % ratchet == 0) {
             memcpy(key, chunk_of(auditor, k / ratchet), KEY_SIZE);
         } else {
-            uint8_t message[9] = {RATCHET_KIND};
-            put_number(message + 1, k % ratchet);
-            put_number(message + 5, ratchet);
+            uint8_t message[ID_SIZE + RATCHET_HEAD_SIZE];
+            uint8_t *head = begin_message(message);
+            head[0] = RATCHET_KIND;
+            put_number(head + 1, k % ratchet);
+            put_number(head + 5, ratchet);
             tag_by_values(key, &secrets[k - 1], message, sizeof message);
         }
         make_secret(&secrets[k], key);
@@ -95,6 +104,7 @@ static void unused_store(uint32_t ratchet)
 {
     memset(store, 0, sizeof store);
     store[0] = set->kind;
+    memcpy(store + 1, "device 7", ID_SIZE);
     store[9] = PHASES;
     put_number(store + 10, CHUNKS);
     put_number(store + 14, ratchet);
@@ -194,7 +204,8 @@ void craft_entry(uint8_t of_phase, uint32_t from, uint32_t size)
     uint32_t ratchet = (uint32_t)keys_count / CHUNKS;
     uint32_t entry_size = PAHYNDOI_ENTRY_SIZE_OF(set->tag_length);
     uint32_t number = (uint32_t)(state.seal_length / entry_size);
-    uint8_t message[HEAD_SIZE + PAHYNDOI_LARGEST_DATA_LIMIT], tag[KEY_SIZE];
+    uint8_t message[ID_SIZE + HEAD_SIZE + PAHYNDOI_LARGEST_DATA_LIMIT], tag[KEY_SIZE];
+    uint8_t *head = begin_message(message);
     memset(chunk_of(store, number / ratchet), 0, PAHYNDOI_CHUNK_SIZE);
     item[0] = ENTRY_KIND;
     item[1] = of_phase;
@@ -202,10 +213,10 @@ void craft_entry(uint8_t of_phase, uint32_t from, uint32_t size)
     put_number(item + 6, size);
     put_number(item + 10, number / ratchet);
     put_number(item + 14, number % ratchet);
-    memcpy(message, item, HEAD_SIZE);
-    memcpy(message + HEAD_SIZE, logs + PAHYNDOI_LOG_PLACE_OF(set->log_capacity, of_phase) + from,
+    memcpy(head, item, HEAD_SIZE);
+    memcpy(head + HEAD_SIZE, logs + PAHYNDOI_LOG_PLACE_OF(set->log_capacity, of_phase) + from,
            size);
-    tag_by_values(tag, &secrets[number], message, HEAD_SIZE + size);
+    tag_by_values(tag, &secrets[number], message, ID_SIZE + HEAD_SIZE + size);
     memcpy(item + HEAD_SIZE, tag, set->tag_length);
     state.seal_length += entry_size;
 }
