@@ -1,5 +1,6 @@
 /* Sealed logs from the plan of their card to the audit, with every call of pahyndoi.h: on a card
-   with a store of kind 1, and on a small card, whose store has a set of parameters of its own. */
+   with a store of kind 1, which has a standby, and on a small card, whose store has a set of
+   parameters of its own. */
 
 #include <stdio.h>
 #include <string.h>
@@ -16,6 +17,10 @@ static uint8_t store[PAHYNDOI_HEADER_SIZE + CHUNKS * PAHYNDOI_CHUNK_SIZE];
 static uint8_t auditor[sizeof store];
 static uint8_t logs[PHASES * PAHYNDOI_LOG_SIZE];
 static uint8_t seal[CHUNKS * RATCHET * PAHYNDOI_ENTRY_SIZE];
+
+static uint8_t standby_store[sizeof store];
+static uint8_t standby_logs[sizeof logs];
+static uint8_t standby_seal[sizeof seal];
 
 static uint8_t small_store[PAHYNDOI_STORE_SIZE_OF(PAHYNDOI_OWN_SET_HEADER_SIZE, CHUNKS)];
 static uint8_t small_auditor[sizeof small_store];
@@ -65,11 +70,17 @@ static void put_number(uint8_t bytes[4], uint32_t number)
         bytes[i] = (uint8_t)(number >> (8 * i));
 }
 
+/* What every message of the store begins with. */
+static void put_id(uint8_t *header, const char id[8])
+{
+    memcpy(header + 1, id, 8);
+}
+
 /* The fields that both kinds of store have. */
 static void put_fields(uint8_t *header, uint8_t kind)
 {
     header[0] = kind;
-    memcpy(header + 1, "device 7", 8);
+    put_id(header, "device 7");
     header[9] = PHASES;
     put_number(header + 10, CHUNKS);
     put_number(header + 14, RATCHET);
@@ -195,6 +206,21 @@ static void hash_known(void)
     print_tag("hmac, 15 bytes", key, "Test With Truncation", PAHYNDOI_SHORTEST_TAG - 1);
 }
 
+/* The standby has equal chunks and an id of its own. Its first entry is of the same text and under
+   the same key as the device's, and yet is refused in its place. */
+static void use_standby(const struct card *card)
+{
+    static struct card standby = {.store = standby_store, .store_size = sizeof standby_store,
+                                  .logs = standby_logs, .logs_size = sizeof standby_logs,
+                                  .seal = standby_seal, .seal_size = sizeof standby_seal};
+    memcpy(standby_store, card->auditor, card->store_size);
+    put_id(standby_store, "device 8");
+    print_answer("standby, open", open_store(&standby));
+    print_answer("append", append(&standby, 1, "door opened"));
+    memcpy(card->seal, standby_seal, PAHYNDOI_ENTRY_SIZE);
+    print_answer("audit with the standby's entry", audit(card));
+}
+
 /* A store of kind 1. */
 static void use_card(void)
 {
@@ -221,6 +247,10 @@ static void use_card(void)
     logs[11] = 'D';
     print_answer("audit of an altered log", audit(&card));
     look_up(&card, 1, 0);
+
+    logs[11] = 'd';
+    print_answer("audit of the log as it was", audit(&card));
+    use_standby(&card);
 }
 
 /* A store of kind 6, and memories sized by its set. Refused are a set with tags of 15 bytes, data a

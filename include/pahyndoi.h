@@ -104,6 +104,12 @@ uint32_t pahyndoi_hmac_sha256(const uint8_t *key, size_t key_length,
  * Numbers are little-endian. A store of kind 1 has the set 32, 512, 8,192.
  * docs/FORMAT.md, 2 to 4, gives the layouts.
  *
+ * The id, from byte 1 on, is any 8 bytes. Every message, of an item or for the
+ * next key, begins with them; no item has them. Give each store an id of its
+ * own, a standby's with equal chunks too: in the other's seal file an item of
+ * the one then has a wrong tag (21), and with one id for both it would pass.
+ * What passing takes is said in docs/FORMAT.md, 10.
+ *
  * Whoever makes the store picks the set, and firmware must size its memories by
  * it. No call is handed a set: each reads it from the store that it is lent,
  * and refuses a log memory of another size (3). Firmware made for one set
