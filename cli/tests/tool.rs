@@ -34,5 +34,7 @@ mod run;
 mod set_refusals;
 #[path = "tool/sets.rs"]
 mod sets;
+#[path = "tool/standby.rs"]
+mod standby;
 #[path = "tool/usage.rs"]
 mod usage;

@@ -143,6 +143,10 @@ With any of the last three the store is of kind 6 and carries this set of
 parameters; those left out are T = 32, D = 512, L = 8192. Without them it is of
 kind 1, which always has these three.
 
+The id is a part of every message that is sealed. Give each controller its own,
+a standby with the same keys too: what one of them sealed is then refused as the
+other's. Both copies of a store have the same id.
+
 No keys are made here. FILE's bytes must be random and secret, from a source
 that you trust; whoever knows them can forge seals.
 

@@ -133,6 +133,11 @@ pub fn sealed(unused: Vec<u8>, lengths: &[u32], entries: &[(u8, &[u8])]) -> File
 /// Two phases, three chunks of three keys: five entries and a filler, so that
 /// two chunks are burned. Logs of 30 and 8 bytes.
 pub fn small() -> Files {
+    small_on(store(2, 3, 3))
+}
+
+/// The same entries on another store of so many phases, chunks and keys.
+pub fn small_on(unused: Vec<u8>) -> Files {
     let entries: [(u8, &[u8]); 5] = [
         (1, b"0123456789"),
         (2, b"side"),
@@ -140,7 +145,7 @@ pub fn small() -> Files {
         (2, b"road"),
         (1, b"ABCDEFGHIJ"),
     ];
-    sealed(store(2, 3, 3), &[0, 0], &entries)
+    sealed(unused, &[0, 0], &entries)
 }
 
 /// Two phases, three chunks of three keys: in phase 1 the longest data, in phase

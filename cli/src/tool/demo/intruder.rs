@@ -11,13 +11,20 @@ pub const TARGET: usize = 22;
 const TENS_IN_LINE: usize = 17;
 const CHUNK_IN_ENTRY: std::ops::Range<usize> = 10..18;
 
-pub struct Act {
-    pub words: &'static str,
-    /// Alters the evening's material, with the noon's at hand.
-    pub alter: fn(&mut Evidence, &Evidence),
+/// What an intruder has besides the evening's material.
+pub struct AtHand {
+    pub noon: Evidence,
+    /// Of the same counts, sealed under equal chunks and another id.
+    pub standby: Evidence,
 }
 
-pub const ACTS: [Act; 9] = [
+pub struct Act {
+    pub words: &'static str,
+    /// Alters the evening's material.
+    pub alter: fn(&mut Evidence, &AtHand),
+}
+
+pub const ACTS: [Act; 10] = [
     Act {
         words: "alters a log byte: the side road's 82 of 07:00 becomes 12",
         alter: alter_log,
@@ -33,6 +40,10 @@ pub const ACTS: [Act; 9] = [
     Act {
         words: "exchanges them and gives each the other's chunk and ratchet numbers",
         alter: exchange_and_renumber,
+    },
+    Act {
+        words: "puts the standby's item 22 in its place: equal chunks and data, another id",
+        alter: put_in_the_standbys,
     },
     Act {
         words: "cuts the last 20 bytes off the seal file",
@@ -56,12 +67,12 @@ pub const ACTS: [Act; 9] = [
     },
 ];
 
-/// The item of this number, which the evening's seal file has.
+/// The item of this number, which every seal file of the day has.
 fn item(evidence: &Evidence, number: usize) -> Option<Item> {
     items(SET, &evidence.seal).flatten().nth(number)
 }
 
-fn alter_log(evening: &mut Evidence, _: &Evidence) {
+fn alter_log(evening: &mut Evidence, _: &AtHand) {
     let area = item(evening, TARGET).and_then(|item| item.area);
     if let Some(area) = area {
         let log = SET.log_start(area.phase);
@@ -69,14 +80,14 @@ fn alter_log(evening: &mut Evidence, _: &Evidence) {
     }
 }
 
-pub fn drop_item(evening: &mut Evidence, _: &Evidence) {
+pub fn drop_item(evening: &mut Evidence, _: &AtHand) {
     if let Some(item) = item(evening, TARGET) {
         evening.seal.drain(item.place);
     }
 }
 
 /// Both are entries, so the second begins where the first ends.
-fn exchange_items(evening: &mut Evidence, _: &Evidence) {
+fn exchange_items(evening: &mut Evidence, _: &AtHand) {
     if let Some(first) = item(evening, TARGET) {
         let length = first.place.len();
         let both = first.place.start..first.place.end + length;
@@ -84,8 +95,8 @@ fn exchange_items(evening: &mut Evidence, _: &Evidence) {
     }
 }
 
-fn exchange_and_renumber(evening: &mut Evidence, noon: &Evidence) {
-    exchange_items(evening, noon);
+fn exchange_and_renumber(evening: &mut Evidence, at_hand: &AtHand) {
+    exchange_items(evening, at_hand);
     if let Some(first) = item(evening, TARGET) {
         let (before, after) = evening.seal.split_at_mut(first.place.end);
         let one = &mut before[first.place.start..][CHUNK_IN_ENTRY];
@@ -93,28 +104,35 @@ fn exchange_and_renumber(evening: &mut Evidence, noon: &Evidence) {
     }
 }
 
-fn cut_bytes(evening: &mut Evidence, _: &Evidence) {
+/// Of equal entries, so both stand at the same place.
+fn put_in_the_standbys(evening: &mut Evidence, at_hand: &AtHand) {
+    if let Some(Item { place, .. }) = item(evening, TARGET) {
+        evening.seal[place.clone()].copy_from_slice(&at_hand.standby.seal[place]);
+    }
+}
+
+fn cut_bytes(evening: &mut Evidence, _: &AtHand) {
     let length = evening.seal.len().saturating_sub(20);
     evening.seal.truncate(length);
 }
 
-fn cut_item(evening: &mut Evidence, _: &Evidence) {
+fn cut_item(evening: &mut Evidence, _: &AtHand) {
     if let Some(last) = items(SET, &evening.seal).flatten().last() {
         evening.seal.truncate(last.place.start);
     }
 }
 
-fn put_back_logs(evening: &mut Evidence, noon: &Evidence) {
+fn put_back_logs(evening: &mut Evidence, AtHand { noon, .. }: &AtHand) {
     evening.logs = noon.logs.clone();
     evening.lengths = noon.lengths.clone();
     evening.seal = noon.seal.clone();
 }
 
-fn put_back_store(evening: &mut Evidence, noon: &Evidence) {
+fn put_back_store(evening: &mut Evidence, AtHand { noon, .. }: &AtHand) {
     evening.device = noon.device.clone();
 }
 
-fn put_back_all(evening: &mut Evidence, noon: &Evidence) {
-    put_back_logs(evening, noon);
-    put_back_store(evening, noon);
+fn put_back_all(evening: &mut Evidence, at_hand: &AtHand) {
+    put_back_logs(evening, at_hand);
+    put_back_store(evening, at_hand);
 }

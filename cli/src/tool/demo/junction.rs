@@ -1,5 +1,7 @@
 //! A junction that counts traffic and seals the counts hour by hour.
 
+use std::ops::Range;
+
 use pahyndoi::{Refusal, State, append, close, open, sha256};
 
 use super::super::evidence::Evidence;
@@ -16,6 +18,12 @@ pub const HEADER: Header = Header {
     chunks: 8,
     ratchet: 16,
     own_set: None,
+};
+
+/// Of the junction's standby, which has equal chunks.
+pub const STANDBY: Header = Header {
+    id: *b"standby ",
+    ..HEADER
 };
 
 pub const SET: Set = HEADER.set();
@@ -38,20 +46,31 @@ pub struct Junction {
 }
 
 impl Junction {
-    /// With an unused store and empty logs.
-    pub fn new() -> Result<Junction, Refusal> {
-        let store = unused_store()?;
+    /// With an unused store of this header and empty logs.
+    pub fn new(header: Header) -> Result<Junction, Refusal> {
+        let store = unused_store(header)?;
         Ok(Junction {
             auditor_store: store.clone(),
             store,
-            logs: vec![0; HEADER.log_memory_length()],
+            logs: vec![0; header.log_memory_length()],
             seal: vec![0; seal_memory()],
             state: State::default(),
         })
     }
 
+    /// Opens, seals the hours' counts and closes; answers how many there are and
+    /// the number of fillers.
+    pub fn half_day(&mut self, hours: Range<usize>) -> Result<(usize, u64), Refusal> {
+        self.open()?;
+        let mut entries = 0;
+        for hour in hours {
+            entries += self.count(hour)?;
+        }
+        Ok((entries, self.close()?))
+    }
+
     /// Begins sealing, with the lengths reached.
-    pub fn open(&mut self) -> Result<(), Refusal> {
+    fn open(&mut self) -> Result<(), Refusal> {
         let lengths = &self.state.lengths[..PHASES.len()];
         let seal_length = self.state.seal_length;
         self.state = open(&self.store, &self.logs, lengths, &self.seal, seal_length)?;
@@ -59,7 +78,7 @@ impl Junction {
     }
 
     /// Seals the counts of one hour and answers how many there are.
-    pub fn count(&mut self, hour: usize) -> Result<usize, Refusal> {
+    fn count(&mut self, hour: usize) -> Result<usize, Refusal> {
         for (index, name) in PHASES.iter().enumerate() {
             let count = HOURS[hour] / (1 + index as u32);
             let line = format!("{hour:02}:00 {name} {count:>3}\n");
@@ -76,7 +95,7 @@ impl Junction {
     }
 
     /// Uses up the chunk and answers the number of fillers.
-    pub fn close(&mut self) -> Result<u64, Refusal> {
+    fn close(&mut self) -> Result<u64, Refusal> {
         close(&mut self.state, &self.store, &self.logs, &mut self.seal)
     }
 
@@ -102,9 +121,9 @@ fn seal_memory() -> usize {
     entry_length(SET) * HEADER.keys_of(HEADER.chunks as usize)
 }
 
-fn unused_store() -> Result<Vec<u8>, Refusal> {
-    let mut store = HEADER.to_bytes();
-    for number in 0..HEADER.chunks {
+fn unused_store(header: Header) -> Result<Vec<u8>, Refusal> {
+    let mut store = header.to_bytes();
+    for number in 0..header.chunks {
         let message = [SEED.as_bytes(), &number.to_le_bytes()].concat();
         store.extend(sha256(&message)?);
     }

@@ -11,8 +11,8 @@ use std::path::Path;
 
 use pahyndoi::Refusal;
 
-use self::intruder::{ACTS, TARGET, drop_item};
-use self::junction::{HEADER, Junction, SEED, SET};
+use self::intruder::{ACTS, AtHand, TARGET, drop_item};
+use self::junction::{HEADER, Junction, SEED, SET, STANDBY};
 use super::Status;
 use super::arguments::Syntax;
 use super::coverage::Coverage;
@@ -37,7 +37,7 @@ count alone tells it from the evening's.";
 
 pub fn run(arguments: &[OsString], out: &mut dyn Write) -> Result<Status, Failure> {
     let arguments = SYNTAX.read(arguments)?;
-    let mut junction = Junction::new().map_err(refused)?;
+    let mut junction = Junction::new(HEADER).map_err(refused)?;
     writeln!(out, "A junction's day, sealed and audited\n")?;
     keys(out)?;
     writeln!(out, "\n2. A day is sealed\n")?;
@@ -45,9 +45,10 @@ pub fn run(arguments: &[OsString], out: &mut dyn Write) -> Result<Status, Failur
     let noon = junction.evidence();
     half_day(&mut junction, 12..24, out)?;
     let evening = junction.evidence();
+    let standby = standby_day(out)?;
     log_lines(&evening, out)?;
     audit(&evening, out)?;
-    intruder(&evening, &noon, out)?;
+    intruder(&evening, &AtHand { noon, standby }, out)?;
     if let Some(folder) = arguments.path("--out") {
         write_folder(&evening, folder, out)?;
     }
@@ -67,12 +68,14 @@ fn keys(out: &mut dyn Write) -> Result<(), Failure> {
     writeln!(out, "1. A key store is made\n")?;
     let text = format!(
         "Junction {}: {}, {} of 32 bytes, {} keys from each, so {} can be sealed. The \
-         controller gets one copy of the store, the auditor keeps another.",
+         controller gets one copy of the store, the auditor keeps another. The controller's \
+         standby gets a store with equal chunks and an id of its own, {}.",
         hexadecimal(&HEADER.id),
         counted(usize::from(HEADER.phases), "phase"),
         counted(HEADER.chunks as usize, "chunk"),
         HEADER.ratchet,
         counted(HEADER.keys_of(HEADER.chunks as usize), "item"),
+        hexadecimal(&STANDBY.id),
     );
     paragraph(out, &text)?;
     let warning = format!(
@@ -82,25 +85,29 @@ fn keys(out: &mut dyn Write) -> Result<(), Failure> {
     paragraph(out, &warning)
 }
 
-/// Opens, seals the hours' counts and closes.
 fn half_day(
     junction: &mut Junction,
     hours: Range<usize>,
     out: &mut dyn Write,
 ) -> Result<(), Failure> {
     let (from, to) = (hours.start, hours.end);
-    junction.open().map_err(refused)?;
-    let mut entries = 0;
-    for hour in hours {
-        entries += junction.count(hour).map_err(refused)?;
-    }
-    let fillers = junction.close().map_err(refused)?;
+    let (entries, fillers) = junction.half_day(hours).map_err(refused)?;
     let text = format!(
         "{from:02}:00 to {to}:00: open, {entries} appends, close with {}; {} burned.",
         counted(fillers as usize, "filler"),
         counted(junction.burned(), "chunk"),
     );
     paragraph(out, &text)
+}
+
+/// What the standby has in the evening: the same counts as the junction.
+fn standby_day(out: &mut dyn Write) -> Result<Evidence, Failure> {
+    let mut standby = Junction::new(STANDBY).map_err(refused)?;
+    for hours in [0..12, 12..24] {
+        standby.half_day(hours).map_err(refused)?;
+    }
+    paragraph(out, "The standby seals the same counts.")?;
+    Ok(standby.evidence())
 }
 
 /// The side road's log from 06:00 to 08:00.
@@ -123,30 +130,30 @@ fn audit(evening: &Evidence, out: &mut dyn Write) -> Result<(), Failure> {
 }
 
 /// Each act on a fresh copy of the evening's material, and its audit.
-fn intruder(evening: &Evidence, noon: &Evidence, out: &mut dyn Write) -> Result<(), Failure> {
+fn intruder(evening: &Evidence, at_hand: &AtHand, out: &mut dyn Write) -> Result<(), Failure> {
     writeln!(
         out,
         "\n4. An intruder takes the evening's material, each time afresh, and\n"
     )?;
     for (letter, act) in ('a'..).zip(&ACTS) {
         let mut altered = evening.clone();
-        (act.alter)(&mut altered, noon);
+        (act.alter)(&mut altered, at_hand);
         let verdict = Verdict::of(&Reading::of(altered.material()));
         writeln!(out, "   {letter}. {}", act.words)?;
         writeln!(out, "{}", verdict.words("      "))?;
     }
     paragraph(out, LIMIT)?;
-    gap(evening, noon, out)
+    gap(evening, at_hand, out)
 }
 
 /// The picture of a log whose item was dropped.
-fn gap(evening: &Evidence, noon: &Evidence, out: &mut dyn Write) -> Result<(), Failure> {
+fn gap(evening: &Evidence, at_hand: &AtHand, out: &mut dyn Write) -> Result<(), Failure> {
     writeln!(
         out,
         "\n   What b. leaves of phase 2, the gap where item {TARGET} was:\n"
     )?;
     let mut altered = evening.clone();
-    drop_item(&mut altered, noon);
+    drop_item(&mut altered, at_hand);
     let reading = Reading::of(altered.material());
     let coverage = Coverage::of(reading.set, &reading.lengths, &reading.items);
     out.write_all(picture::draw_log(&coverage.logs[1], None).as_bytes())?;
