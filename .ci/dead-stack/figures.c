@@ -74,12 +74,12 @@ static void measure_open(void)
     measure(&opening, PAHYNDOI_STATE_UNFIT);
 }
 
-/* Data that end before, at and behind the ends of the hash's blocks, and the longest, under chunks
-   and held keys; each at the front of an empty log. */
+/* Data that, with the 26 bytes of a message before them, end before, at and behind the ends of the
+   hash's blocks, and the longest, under chunks and held keys; each at the front of an empty log. */
 static void measure_append(void)
 {
-    static const size_t sizes[] = {1,  36, 37,  38,  45,  46,
-                                   47, 64, 101, 110, 111, PAHYNDOI_LARGEST_DATA_LIMIT};
+    static const size_t sizes[] = {1,  28, 29, 30,  37,  38,
+                                   39, 64, 93, 102, 103, PAHYNDOI_LARGEST_DATA_LIMIT};
     unused_device(4);
     for (size_t i = 0; i < sizeof sizes / sizeof sizes[0]; i++) {
         data_size = allowed(sizes[i]);
