@@ -18,7 +18,7 @@ mod tests;
 pub use account::{Account, Call, is_history};
 pub use audit::{Presented, audit, audit_packed, log_lengths};
 pub use item::{Head, Item};
-pub use key::{Position, key_at, next_key, position, ratchet_message};
+pub use key::{Position, key_at, next_key, position, ratchet_head};
 pub use lookup::Audited;
 pub use planning::{chunks_needed, least_ratchet};
 pub use sealing::{State, append, close, open};

@@ -2,7 +2,7 @@
 //! tags are right.
 
 use pahyndoi::model::{
-    Head, Header, Item, KEY_LENGTH, Material, Position, Set, chunk, position, ratchet_message,
+    Head, Header, Item, KEY_LENGTH, Material, Position, Set, chunk, position, ratchet_head,
 };
 
 use crate::areas::{Area, random_areas, spoil};
@@ -268,8 +268,8 @@ fn all_keys(store: &[u8], header: &Header, message: Message) -> Vec<[u8; KEY_LEN
         let place = position(number, header.ratchet);
         let key = match (place.offset, keys.last()) {
             (1.., Some(key)) => {
-                let about = ratchet_message(place.offset, header.ratchet);
-                message.tag(&header.id, key, &about, &[])
+                let head = ratchet_head(place.offset, header.ratchet);
+                message.tag(&header.id, key, &head, &[])
             }
             _ => chunk(store, place.chunk),
         };

@@ -74,11 +74,11 @@ fn header_of(id: [u8; 8]) -> Header {
 
 #[test]
 fn bytes_of_a_ratchet_message() {
-    let about = [4, 1, 0, 0, 0, 3, 0, 0, 0];
-    assert_eq!(ratchet_message(1, 3), about);
+    let head = [4, 1, 0, 0, 0, 3, 0, 0, 0];
+    assert_eq!(ratchet_head(1, 3), head);
     for id in IDS {
-        let whole = header_of(id).message(&about, &[]).concat();
-        assert_eq!(whole, [&id[..], &about].concat());
+        let whole = header_of(id).message(&head, &[]).concat();
+        assert_eq!(whole, [&id[..], &head].concat());
         assert_eq!(whole.len(), 17);
     }
 }

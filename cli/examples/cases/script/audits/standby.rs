@@ -3,7 +3,7 @@
 
 use std::ops::Range;
 
-use pahyndoi::model::{Head, Item, Set, chunk, key_at, plain_hmac, ratchet_message};
+use pahyndoi::model::{Head, Item, Set, chunk, key_at, plain_hmac, ratchet_head};
 
 use super::Case;
 use crate::record::MEMORY_STORE;
@@ -190,8 +190,8 @@ fn other_keys(script: &mut Script, shape: Shape, case: &Case) {
         .expect("an item")
         .head;
     let first = chunk(&case.auditor_store, 0);
-    let about = ratchet_message(1, header.ratchet);
-    for parts in wrong_messages(&header.id, &about, &[]) {
+    let step = ratchet_head(1, header.ratchet);
+    for parts in wrong_messages(&header.id, &step, &[]) {
         let key = plain_hmac(&first, &parts);
         let sealed = head.seal(&header, plain_hmac, &key, data(case, &head));
         let other = case.but_items(|items| items[1] = sealed.to_bytes());
