@@ -1,23 +1,21 @@
 -- What a history left, untouched, fits the audit's rules up to the end of the items (`left-fitting`): the audit accepts it where no chunk
 -- is half used (`honest`), and misses the items of a half-used one (`half-way`).
-use mathlib.Core.Path.{_≡_, refl, _∙_, ap, subst}
-use mathlib.Core.List.{List, [], _∷_, _++_}
-use Prim.Native.Nat.{ℕ, suc, _-_, _*_, _≤_, _<_}
+use mathlib.Core.Path.{_≡_, refl, _∙_, ap}
+use mathlib.Core.List.{List}
+use Prim.Native.Nat.{ℕ, _-_, _*_, _≤_, _<_}
 use native.Mathlib.Nat.{le-refl, suc-mul}
 use native.Mathlib.Omega.{arith}
-use lib.ListN.{length, take, drop}
-use lib.Seq.{split-at}
+use lib.ListN.{length, take}
 use Rattle.scheme.specs.Store.{entryKind, phases, ratchet, chunk, burnedFront}
 use Rattle.scheme.specs.Items.{kindOf, phaseOf}
-use Rattle.scheme.specs.Areas.{areaOf, areaEnd, areasIn, covered, waiting, waitingAllowed, lengthIn, Runs}
+use Rattle.scheme.specs.Areas.{areaOf, areaEnd, areasIn, covered, lengthIn}
 use Rattle.scheme.specs.Audit.{audit}
 use Rattle.scheme.proofs.Acceptance.{Fitting, fitting-accepted, fitting-missing}
-use Rattle.scheme.proofs.Acceptance.Areas.{covers}
 use Rattle.scheme.proofs.Acceptance.MaterialRules.{Material, front-is}
 use Rattle.scheme.proofs.Headers.{same-message, same-entry-length, same-filler-length}
 use Rattle.scheme.proofs.Tags.{same-tag}
 use Rattle.scheme.proofs.Burning.{zeroed-later, zeroed-burned}
-use Rattle.scheme.proofs.Runs.{run-one, runs-append, runs-before, run-covered, run-apart, none-waits}
+use Rattle.scheme.proofs.Runs.{run-covered, run-begins}
 use Rattle.claims.specs.Account.{Fed, Account, logOf, lengthsReached}
 use Rattle.claims.specs.Claim.{Starts, storeLeft, logsLeft, sealFile}
 use Rattle.claims.proofs.Good.{Good, itemOf, InLog}
@@ -39,15 +37,11 @@ module _ (f : Fed) (a : Account) (good : Good f a) where
     inside : areaEnd (areaOf (itemOf a k)) ≤ lengthIn (lengthsReached a) (phaseOf (itemOf a k))
     inside = rw (lengths-at (a .logs) (phaseOf (itemOf a k) - 1)) (entry .inside)
 
-    -- it begins where the areas before it end
-    begins : Runs 0 (areasIn (phaseOf (itemOf a k)) (take k (a .items))) (areaOf (itemOf a k) .from)
+    -- it begins where the covered bytes before it end
+    begins : areaOf (itemOf a k) .from ≡ covered (lengthIn (lengthsReached a) (phaseOf (itemOf a k))) (areasIn (phaseOf (itemOf a k)) (take k (a .items)))
     begins =
-        runs-before (take k (a .items)) (itemOf a k) (drop (suc k) (a .items)) (kind, refl)
-        (subst (λ (l : List (List ℕ)). Runs 0 (areasIn (phaseOf (itemOf a k)) l) (length (logOf a (phaseOf (itemOf a k))))) (split-at (a .items) k [] h) (good .runs (phaseOf (itemOf a k)) (entry .low) (entry .high)))
-
-    none-waiting : waiting (lengthIn (lengthsReached a) (phaseOf (itemOf a k))) (areasIn (phaseOf (itemOf a k)) (take k (a .items)) ++ (areaOf (itemOf a k) ∷ [])) ≤ waitingAllowed
-    none-waiting =
-        rw (none-waits (lengthIn (lengthsReached a) (phaseOf (itemOf a k))) (runs-append begins (run-one {area = areaOf (itemOf a k)} refl refl)) inside) (omega arith)
+        let p = phaseOf (itemOf a k) in
+        rw (lengths-at (a .logs) (p - 1)) (run-begins p (a .items) k h (kind, refl) (good .runs p (entry .low) (entry .high)))
 
 module _ (f : Fed) (a : Account) (starts : Starts f) (good : Good f a) where
   left-material : Material (storeLeft f a) (f .store) (logsLeft f a) (lengthsReached a) (front a)
@@ -92,8 +86,7 @@ module _ (f : Fed) (a : Account) (starts : Starts f) (good : Good f a) where
           ranges = λ kind.
               let e = entry f a good k h kind in
               (e .low, rw (fields .phases) (e .high), e .some, rw (fields .dataLimit) (e .few), inside f a good k h kind);
-          free = λ kind. run-apart (areaOf (itemOf a k)) (begins f a good k h kind) (le-refl _);
-          patience = none-waiting f a good k h;
+          begins = begins f a good k h;
           tag = rw (fields .ratchet, same-tag left st fields, same-message left st fields) (good .items k h .tag);
         };
       }
@@ -105,7 +98,7 @@ module _ (f : Fed) (a : Account) (starts : Starts f) (good : Good f a) where
       fitting-accepted (storeLeft f a) (f .store) (logsLeft f a) (lengthsReached a) (sealFile a) (front a) (a .items) left-fitting
       (record {
         enough = rw (keys-left, front-whole a whole) (omega (arith, good .number));
-        whole = λ p low high i h. covers p (a .items) (lengthIn (lengthsReached a) p) .0 (full f a good p low (rw phases-left at high)) i h;
+        whole = λ p low high. full f a good p low (rw phases-left at high);
       })
 
   pub half-way : 0 < a .r .0

@@ -1,5 +1,4 @@
 -- The laws that the functions' proofs cite.
-pub mod Holding
 pub mod Seeking
 pub mod Looking
 pub mod Searching

@@ -15,8 +15,9 @@ pub mod Messages
 pub mod Tags
 pub mod Places
 pub mod Areas
+pub mod Runs
 pub mod Refused
 pub mod Acceptance
+pub mod Rising
 pub mod Burning
-pub mod Runs
 pub mod Standby

@@ -11,6 +11,7 @@ pub mod State
 pub mod Sealer
 pub mod Audit
 pub mod Acceptable
+pub mod Rising
 pub mod Messages
 pub mod Sizes
 pub mod Written
