@@ -189,9 +189,10 @@ uint32_t pahyndoi_hmac_sha256(const uint8_t *key, size_t key_length,
  * holds is the answer. A chunk is burned if all its bytes are zero; P says how
  * many chunks at the front of the device store are burned, N is the ratchet,
  * the number of keys of a chunk. Data limit and log capacity are the store's,
- * 512 and 8,192 in kind 1. When a state fits stands at pahyndoi_state;
- * docs/FORMAT.md, 8 and 9, has the exact conditions, and what waiting and
- * covered mean.
+ * 512 and 8,192 in kind 1. The covered bytes of a phase end where the last of
+ * its entries that the audit has taken ends, at 0 if there is none. When a
+ * state fits stands at pahyndoi_state; docs/FORMAT.md, 8 and 9, has the exact
+ * conditions.
  */
 enum pahyndoi_refusal {
     /* A message or a key handed to the hash has more than 1,048,576 bytes. */
@@ -237,10 +238,10 @@ enum pahyndoi_refusal {
     /* The entry names no phase of the store, has a data length outside 1 to
        the data limit, or reaches past its phase's length. */
     PAHYNDOI_BAD_AREA = 18,
-    /* The entry's area overlaps that of an earlier entry of its phase. */
+    /* The entry begins below the end of its phase's covered bytes. */
     PAHYNDOI_AREA_SHARED = 19,
-    /* After this entry more than 16 entries of its phase wait. */
-    PAHYNDOI_TOO_MANY_WAITING = 20,
+    /* The entry begins beyond the end of its phase's covered bytes. */
+    PAHYNDOI_AREA_BEYOND = 20,
     /* The item's tag is not the one that its key gives for its message. */
     PAHYNDOI_WRONG_TAG = 21,
     /* There are fewer than P times N items (P burned chunks, N keys from
@@ -350,6 +351,12 @@ uint64_t pahyndoi_close(pahyndoi_state *state,
  *
  * Refused in this order: 2 to 5 and 12 to 14; then 15 to 21 for one item
  * before the next; then 22 and 23.
+ *
+ * In accepted material the entries of a phase stand in the seal file in the
+ * order of their data in the log: the first begins at 0, each other where the
+ * one before it ends (19, 20), and the last ends at the phase's length (23). So
+ * whoever looks for a byte of a phase can stop at the first entry of that phase
+ * that ends beyond the byte's offset: it holds the byte.
  *
  * The set is the device store's, which is the auditor's as well or is refused
  * (13): nobody gets shorter tags accepted than the auditor's store says.

@@ -122,15 +122,15 @@ static void measure_close(void)
     measure(&closing, PAHYNDOI_BAD_STORE);
 }
 
-/* In every phase so many areas of one byte wait; those at 0 come last and cover them all. */
-static void craft_waiting(uint32_t waiting)
+/* In every phase so many entries of one byte, one behind the other; the phases take turns. */
+static void craft_bytes(uint32_t entries)
 {
-    unused_device(PHASES * (waiting + 1));
-    for (uint32_t from = waiting; from + 1 > 0; from--)
+    unused_device(PHASES * entries);
+    for (uint32_t from = 0; from < entries; from++)
         for (uint8_t p = 1; p <= PHASES; p++)
             craft_entry(p, from, 1);
     for (size_t p = 0; p < PHASES; p++)
-        state.lengths[p] = waiting + 1;
+        state.lengths[p] = entries;
 }
 
 /* In every phase one area, as long as may be. */
@@ -150,16 +150,17 @@ static void measure_refused(uint32_t refusal)
     measure_lookups(refusal);
 }
 
-/* Material of so many items, of which the last of all has the last phase's first bytes, so many. */
+/* Material of so many items, of which the last of all has the last phase's last bytes, so many. */
 static void measure_last(uint32_t items, uint32_t size)
 {
     measure(&auditing, 0);
     if (PAHYNDOI_NUMBER(answer) != items)
         fail("the audit counted %u items", (unsigned)PAHYNDOI_NUMBER(answer));
     phase = PHASES;
-    offset = size - 1;
+    offset = state.lengths[PHASES - 1] - 1;
     measure_lookups(0);
-    if (PAHYNDOI_PLACE(answer) != PAHYNDOI_LOG_PLACE_OF(set->log_capacity, PHASES) ||
+    if (PAHYNDOI_PLACE(answer) !=
+            PAHYNDOI_LOG_PLACE_OF(set->log_capacity, PHASES) + state.lengths[PHASES - 1] - size ||
         PAHYNDOI_LENGTH(answer) != size)
         fail("data_at found %u bytes from byte %u of the logs on",
              (unsigned)PAHYNDOI_LENGTH(answer), (unsigned)PAHYNDOI_PLACE(answer));
@@ -172,8 +173,8 @@ static void measure_accepted(void)
     unused_device(4);
     measure(&auditing, 0);
     measure_lookups(PAHYNDOI_NO_SUCH_BYTE);
-    craft_waiting(16);
-    measure_last(PHASES * 17, 1);
+    craft_bytes(RATCHET_MOST / PHASES);
+    measure_last(RATCHET_MOST, 1);
     craft_longest();
     measure_last(PHASES, set->data_limit);
 }
@@ -181,16 +182,18 @@ static void measure_accepted(void)
 static void measure_audit(void)
 {
     measure_accepted();
-    craft_waiting(16);
+    craft_bytes(RATCHET_MOST / PHASES);
     state.lengths[PHASES - 1]++;
     measure_refused(PAHYNDOI_NOT_COVERED);
     seal[state.seal_length - 1] ^= 1;
     measure_refused(PAHYNDOI_WRONG_TAG);
     state.seal_length -= PAHYNDOI_ENTRY_SIZE_OF(set->tag_length);
     measure_refused(PAHYNDOI_ITEMS_MISSING);
-    craft_waiting(17);
-    measure_refused(PAHYNDOI_TOO_MANY_WAITING);
-    craft_waiting(1);
+    craft_bytes(2);
+    craft_entry(1, 3, 1);
+    state.lengths[0] = 4;
+    measure_refused(PAHYNDOI_AREA_BEYOND);
+    craft_bytes(2);
     craft_entry(1, 0, set->data_limit);
     if (state.lengths[0] < set->data_limit)
         state.lengths[0] = set->data_limit;

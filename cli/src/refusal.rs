@@ -31,8 +31,8 @@ const MEANINGS: [&str; 26] = [
     "the item has another chunk number or ratchet offset than its number gives",
     "the entry names no phase of the store, has a data length outside 1 to the data limit, or \
      reaches past its phase's length",
-    "the entry's area overlaps that of an earlier entry of its phase",
-    "after this entry more than 16 entries of its phase wait",
+    "the entry begins below the end of its phase's covered bytes",
+    "the entry begins beyond the end of its phase's covered bytes",
     "the item's tag is not the one that its key gives for its message",
     "there are fewer than P times N items (P burned chunks, N keys from each)",
     "some phase's log is not covered up to its length",
