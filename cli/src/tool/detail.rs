@@ -4,7 +4,7 @@
 use pahyndoi::{Material, Rejected};
 
 use super::coverage::Coverage;
-use super::item::Item;
+use super::item::{Area, Item};
 use super::reading::Reading;
 use super::store::{Header, burned_at_front, chunks, is_burned};
 use super::text::{counted, grouped};
@@ -142,8 +142,8 @@ fn item_detail(header: &Header, reading: &Reading, rejected: &Rejected) -> Optio
         16 => keys_sentence(header, &reading.material),
         17 => position_sentence(header, number),
         18 => area_sentence(header, reading, item).unwrap_or_default(),
-        19 => sharing_sentence(reading, item).unwrap_or_default(),
-        20 => waiting_sentence(reading, item).unwrap_or_default(),
+        19 => below_sentences(reading, item).unwrap_or_default(),
+        20 => beyond_sentences(reading, item).unwrap_or_default(),
         _ => String::new(),
     };
     Some(
@@ -204,38 +204,53 @@ fn area_sentence(header: &Header, reading: &Reading, item: &Item) -> Option<Stri
     ))
 }
 
-/// How far the item's phase is covered up to the item, and what waits.
-fn waiting_sentence(reading: &Reading, item: &Item) -> Option<String> {
-    let so_far = &reading.items[..=item.number];
-    let coverage = Coverage::of(reading.set, &reading.lengths, so_far);
-    let index = usize::from(item.area?.phase).checked_sub(1)?;
-    let log = coverage.logs.get(index)?;
-    let covered = log.covered();
-    let waiting = log.areas.iter().filter(|area| area.bytes.start > covered);
+/// The earlier items of a refused item's phase, the last one first. They are
+/// taken, so each ends where the next one of the phase begins.
+fn earlier_areas(reading: &Reading, item: &Item) -> impl Iterator<Item = (usize, Area)> {
+    let phase = item.area.map(|area| area.phase);
+    let earlier = reading.items[..item.number].iter().rev();
+    let areas = earlier.filter_map(|other| Some((other.number, other.area?)));
+    areas.filter(move |(_, area)| Some(area.phase) == phase)
+}
+
+/// Where the covered bytes of the item's phase end before it.
+fn covered_end(reading: &Reading, item: &Item) -> u64 {
+    let last = earlier_areas(reading, item).next();
+    let bytes = last.and_then(|(_, area)| area.bytes(reading.set));
+    bytes.map_or(0, |bytes| bytes.end)
+}
+
+fn end_sentence(end: u64) -> String {
+    format!("The phase's covered bytes end at {}.", grouped(end))
+}
+
+/// The covered end, and which earlier item holds the byte at the item's offset.
+fn below_sentences(reading: &Reading, item: &Item) -> Option<String> {
+    let offset = u64::from(item.area?.offset);
+    let (number, area) = earlier_areas(reading, item).find(|(_, area)| {
+        let bytes = area.bytes(reading.set);
+        bytes.is_some_and(|bytes| bytes.contains(&offset))
+    })?;
     Some(format!(
-        "Of the phase, {} of {} are covered so far, and {} wait.",
-        grouped(covered as u64),
-        counted(log.bytes.len(), "byte"),
-        counted(waiting.count(), "item")
+        "{} Item {number}, with offset {} and {}, holds byte {}.",
+        end_sentence(covered_end(reading, item)),
+        grouped(area.offset.into()),
+        counted(area.length as usize, "byte"),
+        grouped(offset)
     ))
 }
 
-/// The first earlier item of the phase that shares a byte.
-fn sharing_sentence(reading: &Reading, item: &Item) -> Option<String> {
-    let area = item.area?;
-    let bytes = area.bytes(reading.set)?;
-    let mut earlier = reading.items[..item.number].iter();
-    let other = earlier.find(|earlier| {
-        let theirs = earlier.area.filter(|other| other.phase == area.phase);
-        let theirs = theirs.and_then(|other| other.bytes(reading.set));
-        theirs.is_some_and(|theirs| theirs.start < bytes.end && bytes.start < theirs.end)
-    })?;
-    let theirs = other.area?;
+/// The covered end, and the bytes from there to the item's offset.
+fn beyond_sentences(reading: &Reading, item: &Item) -> Option<String> {
+    let (end, offset) = (covered_end(reading, item), u64::from(item.area?.offset));
+    let last = offset.checked_sub(1)?;
+    let bytes = match end == last {
+        true => format!("byte {}", grouped(end)),
+        false => format!("bytes {} to {}", grouped(end), grouped(last)),
+    };
     Some(format!(
-        "Item {} has offset {}, {}.",
-        other.number,
-        grouped(theirs.offset.into()),
-        counted(theirs.length as usize, "byte")
+        "{} No earlier item holds {bytes}.",
+        end_sentence(end)
     ))
 }
 
@@ -291,21 +306,57 @@ mod tests {
         detail(&Reading::of(material), &rejected).expect("words")
     }
 
+    fn assert_ends(words: &str, expected: &str) {
+        assert!(words.ends_with(expected), "{words}");
+    }
+
+    /// The first byte, one in the middle and the last one of each area.
     #[test]
-    fn areas_that_touch_or_are_of_another_phase_share_nothing() {
-        let areas = [(2, 10, 10), (1, 20, 5), (1, 5, 5), (1, 15, 4), (1, 10, 10)];
-        let words = words(19, 4, &areas);
-        assert!(
-            words.ends_with(" Item 3 has offset 15, 4 bytes."),
-            "{words}"
-        );
+    fn item_that_holds_the_byte_is_named() {
+        let taken = [(2, 0, 40), (1, 0, 10), (1, 10, 1), (1, 11, 9), (2, 40, 9)];
+        for (offset, holder) in [
+            (0, "Item 1, with offset 0 and 10 bytes, holds byte 0."),
+            (9, "Item 1, with offset 0 and 10 bytes, holds byte 9."),
+            (10, "Item 2, with offset 10 and 1 byte, holds byte 10."),
+            (11, "Item 3, with offset 11 and 9 bytes, holds byte 11."),
+            (15, "Item 3, with offset 11 and 9 bytes, holds byte 15."),
+            (19, "Item 3, with offset 11 and 9 bytes, holds byte 19."),
+        ] {
+            let areas = [&taken[..], &[(1, offset, 30)]].concat();
+            let expected = format!(" The phase's covered bytes end at 20. {holder}");
+            assert_ends(&words(19, 5, &areas), &expected);
+        }
     }
 
     #[test]
-    fn covered_items_do_not_wait() {
-        let areas = [(1, 0, 10), (1, 30, 10), (2, 50, 5), (1, 10, 10), (1, 60, 5)];
-        let words = words(20, 4, &areas);
-        let expected = " 20 of 100 bytes are covered so far, and 2 items wait.";
-        assert!(words.ends_with(expected), "{words}");
+    fn bytes_up_to_the_item_are_named() {
+        let taken = [(1, 0, 10), (1, 10, 10), (2, 0, 40)];
+        for (offset, gap) in [
+            (21, "byte 20"),
+            (22, "bytes 20 to 21"),
+            (70, "bytes 20 to 69"),
+        ] {
+            let areas = [&taken[..], &[(1, offset, 30)]].concat();
+            let expected =
+                format!(" The phase's covered bytes end at 20. No earlier item holds {gap}.");
+            assert_ends(&words(20, 3, &areas), &expected);
+        }
+    }
+
+    /// Neither items of other phases nor later ones of its own count.
+    #[test]
+    fn gap_before_the_first_item_of_a_phase() {
+        let areas = [(2, 0, 40), (1, 1, 10), (1, 0, 1)];
+        let expected = " The phase's covered bytes end at 0. No earlier item holds byte 0.";
+        assert_ends(&words(20, 1, &areas), expected);
+    }
+
+    #[test]
+    fn numbers_are_grouped() {
+        let areas = [(1, 0, 512), (1, 512, 512), (1, 1024, 512), (1, 1535, 512)];
+        let expected = " end at 1,536. Item 2, with offset 1,024 and 512 bytes, holds byte 1,535.";
+        assert_ends(&words(19, 3, &areas), expected);
+        let areas = [(1, 5000, 1)];
+        assert_ends(&words(20, 0, &areas), " bytes 0 to 4,999.");
     }
 }

@@ -80,6 +80,28 @@ fn json_of_refused_material_is_escaped() {
     assert_eq!(text.lines().count(), 1);
 }
 
+/// Item 2 with another log offset than 10, where the covered bytes end.
+#[test]
+fn json_of_an_item_off_the_covered_end() {
+    for (offset, start) in [
+        (
+            9,
+            r#"{"verdict":"refused","items":null,"rule":19,"item":2,"reason":"the entry begins below the end of its phase's covered bytes","detail":"At byte 100 of the seal file stands an entry of phase 1, offset 9, 10 bytes, chunk 0, ratchet offset 2. The phase's covered bytes end at 10. Item 0, with offset 0 and 10 bytes, holds byte 9.","files":{"#,
+        ),
+        (
+            11,
+            r#"{"verdict":"refused","items":null,"rule":20,"item":2,"reason":"the entry begins beyond the end of its phase's covered bytes","detail":"At byte 100 of the seal file stands an entry of phase 1, offset 11, 10 bytes, chunk 0, ratchet offset 2. The phase's covered bytes end at 10. No earlier item holds byte 10.","files":{"#,
+        ),
+    ] {
+        let folder = small_folder("json-covered-end");
+        let mut seal = folder.read("seal.bin");
+        seal[2 * ENTRY + 2] = offset;
+        folder.write("seal.bin", &seal);
+        let text = folder.audit(&["--json"]).ended(1);
+        assert!(text.starts_with(start), "{text}");
+    }
+}
+
 #[test]
 fn flags_stand_for_a_folder() {
     let folder = small_folder("flags");

@@ -109,23 +109,34 @@ pub fn store_with(set: Set, phases: u8, chunks: u32, ratchet: u32) -> Vec<u8> {
     [&header.to_bytes(), &common[18..]].concat()
 }
 
+/// The lengths given to an open, and the phases and data appended behind it.
+pub type Part<'a> = (&'a [u32], &'a [(u8, &'a [u8])]);
+
 /// Opened with these lengths, these phases' data appended, closed.
 pub fn sealed(unused: Vec<u8>, lengths: &[u32], entries: &[(u8, &[u8])]) -> Files {
+    sealed_in_parts(unused, &[(lengths, entries)])
+}
+
+/// The same, and once more for each part, be its lengths those reached or not.
+pub fn sealed_in_parts(unused: Vec<u8>, parts: &[Part]) -> Files {
     let mut store = unused.clone();
     let header = Header::parse(&unused).expect("a store");
     let mut logs = vec![0; header.log_memory_length()];
     let mut seal = vec![0; 4000];
-    let mut state: State = open(&store, &logs, lengths, &seal, 0).expect("open");
-    for (phase, data) in entries {
-        append(&mut state, &mut store, &mut logs, &mut seal, *phase, data).expect("append");
+    let mut state = State::default();
+    for (lengths, entries) in parts {
+        state = open(&store, &logs, lengths, &seal, state.seal_length).expect("open");
+        for (phase, data) in *entries {
+            append(&mut state, &mut store, &mut logs, &mut seal, *phase, data).expect("append");
+        }
+        close(&mut state, &store, &logs, &mut seal).expect("close");
     }
-    close(&mut state, &store, &logs, &mut seal).expect("close");
     seal.truncate(state.seal_length as usize);
     Files {
         device: store,
         auditor: unused,
         logs,
-        lengths: little_endian(&state.lengths[..lengths.len()]),
+        lengths: little_endian(&state.lengths[..usize::from(header.phases)]),
         seal,
     }
 }

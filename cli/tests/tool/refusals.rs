@@ -3,7 +3,7 @@
 use std::thread;
 
 use crate::folder::Folder;
-use crate::material::{ENTRY, Files, sealed, small, store};
+use crate::material::{ENTRY, Files, Part, sealed, sealed_in_parts, small, store};
 use crate::run::{assert_narrow, joined};
 
 /// Audits the material after the change: the rule, the item and the words.
@@ -179,23 +179,87 @@ fn rule_18() {
     refused(18, Some(0), &words, |files| files.seal[6] = 0);
 }
 
-#[test]
-fn rule_19() {
-    let words = "the entry's area overlaps that of an earlier entry of its phase. At byte 100 of \
-                 the seal file stands an entry of phase 1, offset 9, 10 bytes, chunk 0, ratchet \
-                 offset 2. Item 0 has offset 0, 10 bytes.";
-    refused(19, Some(2), words, |files| files.seal[2 * ENTRY + 2] = 9);
+const BELOW: &str = "the entry begins below the end of its phase's covered bytes. At byte";
+const BEYOND: &str = "the entry begins beyond the end of its phase's covered bytes. At byte";
+
+/// Gives item 2, an entry of phase 1 behind 10 bytes, another log offset.
+fn move_item(files: &mut Files, offset: u32) {
+    files.seal[2 * ENTRY + 2..2 * ENTRY + 6].copy_from_slice(&offset.to_le_bytes());
 }
 
-/// Opened with bytes in the log that no item covers, all entries wait.
+#[test]
+fn rule_19() {
+    for offset in [0, 1, 9] {
+        let words = format!(
+            "{BELOW} 100 of the seal file stands an entry of phase 1, offset {offset}, 10 bytes, \
+             chunk 0, ratchet offset 2. The phase's covered bytes end at 10. Item 0, with offset 0 \
+             and 10 bytes, holds byte {offset}."
+        );
+        refused(19, Some(2), &words, |files| move_item(files, offset));
+    }
+}
+
 #[test]
 fn rule_20() {
-    let entries = [(1, &b"x"[..]); 17];
-    let files = sealed(store(1, 1, 17), &[100], &entries);
-    let words = "after this entry more than 16 entries of its phase wait. At byte 800 of the seal \
-                 file stands an entry of phase 1, offset 116, 1 byte, chunk 0, ratchet offset 16. \
-                 Of the phase, 0 of 117 bytes are covered so far, and 17 items wait.";
-    refused_files(20, Some(16), words, &files);
+    for (offset, gap) in [
+        (11, "byte 10"),
+        (12, "bytes 10 to 11"),
+        (20, "bytes 10 to 19"),
+    ] {
+        let words = format!(
+            "{BEYOND} 100 of the seal file stands an entry of phase 1, offset {offset}, 10 bytes, \
+             chunk 0, ratchet offset 2. The phase's covered bytes end at 10. No earlier item holds \
+             {gap}."
+        );
+        refused(20, Some(2), &words, |files| move_item(files, offset));
+    }
+}
+
+/// A device appends 10 bytes, is opened with this length and appends these data.
+fn reopened(length: u32, data: &[u8]) -> Files {
+    let (first, second) = ([(1, &b"0123456789"[..])], [(1, data)]);
+    let parts: [Part; 2] = [(&[0], &first), (&[length], &second)];
+    sealed_in_parts(store(1, 2, 1), &parts)
+}
+
+/// The bytes written again are those that stand there, so all tags are right.
+#[test]
+fn rule_19_of_a_device_that_writes_bytes_again() {
+    let words = format!(
+        "{BELOW} 50 of the seal file stands an entry of phase 1, offset 7, 3 bytes, chunk 1, \
+         ratchet offset 0. The phase's covered bytes end at 10. Item 0, with offset 0 and 10 \
+         bytes, holds byte 7."
+    );
+    refused_files(19, Some(1), &words, &reopened(7, b"789"));
+}
+
+#[test]
+fn device_that_goes_on_at_the_covered_end() {
+    let folder = Folder::new("refusals/covered-end");
+    reopened(10, b"abc").write(&folder);
+    let text = folder.audit(&["--no-picture"]).ended(0);
+    assert_eq!(text, "ACCEPTED: 2 items.\n");
+}
+
+#[test]
+fn rule_20_of_a_device_that_leaves_a_gap() {
+    let words = format!(
+        "{BEYOND} 50 of the seal file stands an entry of phase 1, offset 13, 3 bytes, chunk 1, \
+         ratchet offset 0. The phase's covered bytes end at 10. No earlier item holds bytes 10 to \
+         12."
+    );
+    refused_files(20, Some(1), &words, &reopened(13, b"abc"));
+}
+
+/// The first entry of a phase begins at 0.
+#[test]
+fn rule_20_at_the_first_entry() {
+    let files = sealed(store(1, 1, 3), &[100], &[(1, &b"x"[..]); 3]);
+    let words = format!(
+        "{BEYOND} 0 of the seal file stands an entry of phase 1, offset 100, 1 byte, chunk 0, \
+         ratchet offset 0. The phase's covered bytes end at 0. No earlier item holds bytes 0 to 99."
+    );
+    refused_files(20, Some(0), &words, &files);
 }
 
 #[test]
@@ -218,14 +282,4 @@ fn rule_23() {
     let words = "some phase's log is not covered up to its length. Of phase 2, 8 of 9 bytes are \
                  covered without a gap.";
     refused(23, None, words, |files| files.set_lengths(&[30, 9]));
-}
-
-/// Sixteen may wait; what then refuses is the gap.
-#[test]
-fn sixteen_waiting_items_pass() {
-    let folder = Folder::new("refusals/sixteen");
-    sealed(store(1, 1, 16), &[100], &[(1, &b"x"[..]); 16]).write(&folder);
-    let text = folder.audit(&[]).ended(1);
-    assert!(text.starts_with("REFUSED by rule 23:"), "{text}");
-    assert!(text.contains("gap: no item covers 0-99 (100 bytes)"));
 }

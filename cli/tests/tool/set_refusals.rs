@@ -264,32 +264,76 @@ fn rule_18_by_the_length() {
     refused(FULL, 18, Some(1), &words, |files| files.seal[35] = 3);
 }
 
+/// Entries of one byte, the last one at another log offset than that reached.
 #[test]
-fn rule_19() {
-    let words = "the entry's area overlaps that of an earlier entry of its phase. At byte 68 of \
-                 the seal file stands an entry of phase 2, offset 0, 1 byte, chunk 0, ratchet \
-                 offset 2. Item 1 has offset 0, 1 byte.";
-    refused(FULL, 19, Some(2), words, |files| files.seal[2 * 34 + 2] = 0);
-    // Data longer than any of kind 1 are found again.
+fn rules_19_and_20() {
+    for set in SETS {
+        let entry = set.entry_length();
+        let stands = |offset| {
+            format!(
+                "At byte {} of the seal file stands an entry of phase 2, offset {offset}, 1 byte, \
+                 chunk 1, ratchet offset 0. The phase's covered bytes end at 2.",
+                3 * entry
+            )
+        };
+        let words = format!(
+            "the entry begins below the end of its phase's covered bytes. {} Item 2, with offset 1 \
+             and 1 byte, holds byte 1.",
+            stands(1)
+        );
+        refused(set, 19, Some(3), &words, |files| {
+            files.seal[3 * entry + 2] = 1
+        });
+        let words = format!(
+            "the entry begins beyond the end of its phase's covered bytes. {} No earlier item \
+             holds byte 2.",
+            stands(3)
+        );
+        refused(set, 20, Some(3), &words, |files| {
+            files.seal[3 * entry + 2] = 3;
+            files.set_lengths(&[set.data_limit, 4]);
+        });
+    }
+}
+
+/// Data longer than any of kind 1, and where they end.
+#[test]
+fn rules_19_and_20_behind_long_data() {
     let longest = [5; 4000];
     let entries = [(1, &longest[..]), (1, b"y")];
     let mut files = sealed(store_with(SETS[2], 1, 1, 2), &[0], &entries);
+    files.set_lengths(&[4002]);
+    let stands = |offset| {
+        format!(
+            "At byte 50 of the seal file stands an entry of phase 1, offset {offset}, 1 byte, \
+             chunk 0, ratchet offset 1. The phase's covered bytes end at 4,000."
+        )
+    };
     files.seal[50 + 2..50 + 6].copy_from_slice(&3999_u32.to_le_bytes());
-    let words = "the entry's area overlaps that of an earlier entry of its phase. At byte 50 of \
-                 the seal file stands an entry of phase 1, offset 3,999, 1 byte, chunk 0, ratchet \
-                 offset 1. Item 0 has offset 0, 4,000 bytes.";
-    refused_files(19, Some(1), words, &files);
+    let words = format!(
+        "the entry begins below the end of its phase's covered bytes. {} Item 0, with offset 0 and \
+         4,000 bytes, holds byte 3,999.",
+        stands("3,999")
+    );
+    refused_files(19, Some(1), &words, &files);
+    files.seal[50 + 2..50 + 6].copy_from_slice(&4001_u32.to_le_bytes());
+    let words = format!(
+        "the entry begins beyond the end of its phase's covered bytes. {} No earlier item holds \
+         byte 4,000.",
+        stands("4,001")
+    );
+    refused_files(20, Some(1), &words, &files);
 }
 
-/// Opened with bytes in the log that no item covers, all entries wait.
+/// Opened with bytes in the log that no item covers.
 #[test]
-fn rule_20() {
-    let entries = [(1, &b"x"[..]); 17];
-    let files = sealed(store_with(SETS[2], 1, 1, 17), &[60_000], &entries);
-    let words = "after this entry more than 16 entries of its phase wait. At byte 800 of the seal \
-                 file stands an entry of phase 1, offset 60,016, 1 byte, chunk 0, ratchet offset \
-                 16. Of the phase, 0 of 60,017 bytes are covered so far, and 17 items wait.";
-    refused_files(20, Some(16), words, &files);
+fn rule_20_at_the_first_entry() {
+    let files = sealed(store_with(SETS[2], 1, 1, 1), &[60_000], &[(1, b"x")]);
+    let words = "the entry begins beyond the end of its phase's covered bytes. At byte 0 of the \
+                 seal file stands an entry of phase 1, offset 60,000, 1 byte, chunk 0, ratchet \
+                 offset 0. The phase's covered bytes end at 0. No earlier item holds bytes 0 to \
+                 59,999.";
+    refused_files(20, Some(0), words, &files);
 }
 
 /// The first and the last byte of a tag of each length, and of the longest data.
