@@ -263,11 +263,11 @@ fn missing_detail(header: &Header, reading: &Reading) -> String {
 fn gap_detail(reading: &Reading) -> Option<String> {
     let coverage = Coverage::of(reading.set, &reading.lengths, &reading.items);
     let mut logs = coverage.logs.iter();
-    let log = logs.find(|log| log.covered() < log.bytes.len())?;
+    let log = logs.find(|log| log.covered < log.bytes.len())?;
     Some(format!(
-        "Of phase {}, {} of {} are covered without a gap.",
+        "Of phase {}, {} of {} are covered.",
         log.phase,
-        grouped(log.covered() as u64),
+        grouped(log.covered as u64),
         counted(log.bytes.len(), "byte")
     ))
 }

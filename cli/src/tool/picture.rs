@@ -1,9 +1,10 @@
 //! The picture of what items cover, for a terminal of 80 columns.
 
+use std::cmp::Ordering;
 use std::fmt::Write;
 use std::ops::Range;
 
-use super::coverage::{Byte, Coverage, Covered, Log};
+use super::coverage::{Byte, Coverage, Log, Placed};
 use super::item::Damage;
 use super::reading::Reading;
 use super::text::{COLUMNS, counted, grouped, wrapped};
@@ -14,12 +15,14 @@ const ITEMS_LISTED: usize = 12;
 /// The columns of a listed item, where its numbers do not need more.
 const ITEM_COLUMNS: usize = 25;
 const GAPS_LISTED: usize = 6;
-const OUTSIDE_LISTED: usize = 8;
+const NUMBERS_LISTED: usize = 8;
 
 const LEGEND: &str = "\
-Coverage of the logs. Each cell of a bar stands for equally many bytes, give or
-take one: a-z the item at its first byte (after z comes a), . no item, - an item
-on a part of it, * bytes that items share, ! the refused item.
+Coverage of the logs. The covered bytes of a phase run from 0 on, and an item
+that begins where they end covers its own. Each cell of a bar stands for equally
+many bytes, give or take one: a-z the item at its first byte (after z comes a),
+< if it begins below the covered end, > if beyond, . no item, - an item on a
+part of the cell, * bytes that items share, ! the refused item.
 ";
 
 /// Draws all logs, and tells what could not be drawn.
@@ -38,7 +41,8 @@ pub fn draw(reading: &Reading, refused: Option<u32>) -> String {
     text
 }
 
-/// A heading, the bar, the gaps and the first items of one log.
+/// A heading, the bar, the gaps, the items that begin elsewhere than at the
+/// covered end, and the first items of one log.
 pub fn draw_log(log: &Log, refused: Option<u32>) -> String {
     let refused = refused.map(|number| number as usize);
     let mut text = heading(log);
@@ -46,16 +50,18 @@ pub fn draw_log(log: &Log, refused: Option<u32>) -> String {
         text += &format!("  |{}|\n", bar(log, refused));
     }
     text += &gap_rows(&log.gaps());
+    text += &side_rows(log, "below", Ordering::Less);
+    text += &side_rows(log, "beyond", Ordering::Greater);
     text += &item_rows(&log.areas, refused);
     text
 }
 
 fn heading(log: &Log) -> String {
     format!(
-        "Phase {}: {}, {} of {} covered without a gap\n",
+        "Phase {}: {}, {} of {} covered\n",
         log.phase,
         counted(log.areas.len(), "item"),
-        grouped(log.covered() as u64),
+        grouped(log.covered as u64),
         counted(log.bytes.len(), "byte"),
     )
 }
@@ -81,14 +87,18 @@ fn mark(log: &Log, cell: Range<usize>, refused: Option<usize>) -> char {
         _ if bytes.contains(&Byte::Shared) => '*',
         _ if bytes.iter().any(refused_byte) => '!',
         _ if free == bytes.len() => '.',
-        Byte::One(index) if free == 0 => letter(index),
+        Byte::One(index) if free == 0 => sign(index, &log.areas[index]),
         _ => '-',
     }
 }
 
 /// The letters run through the areas in order and start again after z.
-fn letter(index: usize) -> char {
-    char::from(b'a' + (index % 26) as u8)
+fn sign(index: usize, area: &Placed) -> char {
+    match area.begins {
+        Ordering::Less => '<',
+        Ordering::Equal => char::from(b'a' + (index % 26) as u8),
+        Ordering::Greater => '>',
+    }
 }
 
 fn gap_rows(gaps: &[Range<usize>]) -> String {
@@ -103,19 +113,32 @@ fn gap_rows(gaps: &[Range<usize>]) -> String {
     text
 }
 
+/// The items that begin on this side of the covered end, if there are any.
+fn side_rows(log: &Log, side: &str, begins: Ordering) -> String {
+    let items = log.beginning(begins);
+    let words = format!("begin {side} the covered end: {}", numbered(&items));
+    match items.is_empty() {
+        true => String::new(),
+        false => wrapped("  ", &words),
+    }
+}
+
 fn span(bytes: &Range<usize>) -> String {
     format!("{}-{}", bytes.start, bytes.end - 1)
 }
 
-/// The first items in order of place, and the refused one wherever it is.
-fn item_rows(areas: &[Covered], refused: Option<usize>) -> String {
-    let is_refused = |area: &Covered| Some(area.item) == refused;
+/// The first items, and the refused one wherever it is.
+fn item_rows(areas: &[Placed], refused: Option<usize>) -> String {
+    let is_refused = |area: &Placed| Some(area.item) == refused;
     let listed: Vec<String> = areas
         .iter()
         .enumerate()
         .filter(|(index, area)| *index < ITEMS_LISTED || is_refused(area))
         .map(|(index, area)| {
-            let mark = if is_refused(area) { '!' } else { letter(index) };
+            let mark = match is_refused(area) {
+                true => '!',
+                false => sign(index, area),
+            };
             format!("{mark} item {}: {}", area.item, span(&area.bytes))
         })
         .collect();
@@ -155,15 +178,23 @@ fn remarks(coverage: &Coverage, damage: Option<Damage>) -> String {
 }
 
 fn outside_sentence(outside: &[usize]) -> String {
-    let listed = outside.iter().take(OUTSIDE_LISTED).map(usize::to_string);
+    format!(
+        "Not drawn, with areas that lie in no log: {}.",
+        numbered(outside)
+    )
+}
+
+/// How many items these are, and the first numbers.
+fn numbered(items: &[usize]) -> String {
+    let listed = items.iter().take(NUMBERS_LISTED).map(usize::to_string);
     let listed: Vec<String> = listed.collect();
-    let more = match outside.len() > OUTSIDE_LISTED {
+    let more = match items.len() > NUMBERS_LISTED {
         true => ", ...",
         false => "",
     };
     format!(
-        "Not drawn, with areas that lie in no log: {} ({}{more}).",
-        counted(outside.len(), "item"),
+        "{} ({}{more})",
+        counted(items.len(), "item"),
         listed.join(", ")
     )
 }
@@ -185,7 +216,7 @@ mod tests {
     fn short_log_has_a_cell_for_each_byte() {
         let picture = log_picture(10, &[(1, 0, 4), (1, 4, 6)], None);
         let expected = "\
-Phase 1: 2 items, 10 of 10 bytes covered without a gap
+Phase 1: 2 items, 10 of 10 bytes covered
   |aaaabbbbbb|
   a item 0: 0-3             b item 1: 4-9
 ";
@@ -196,12 +227,58 @@ Phase 1: 2 items, 10 of 10 bytes covered without a gap
     fn gap_is_drawn_and_named() {
         let picture = log_picture(12, &[(1, 0, 4), (1, 9, 3)], None);
         let expected = "\
-Phase 1: 2 items, 4 of 12 bytes covered without a gap
-  |aaaa.....bbb|
+Phase 1: 2 items, 4 of 12 bytes covered
+  |aaaa.....>>>|
   gap: no item covers 4-8 (5 bytes)
-  a item 0: 0-3             b item 1: 9-11
+  begin beyond the covered end: 1 item (1)
+  a item 0: 0-3             > item 1: 9-11
 ";
         assert_eq!(picture, expected);
+    }
+
+    /// The items behind it go on where the covered bytes end.
+    #[test]
+    fn item_below_the_covered_end_is_drawn_and_named() {
+        let areas = [(1, 0, 4), (1, 4, 4), (1, 6, 4), (1, 8, 1), (1, 9, 3)];
+        let picture = log_picture(12, &areas, None);
+        let expected = "\
+Phase 1: 5 items, 12 of 12 bytes covered
+  |aaaabb****ee|
+  begin below the covered end: 1 item (2)
+  a item 0: 0-3             b item 1: 4-7             < item 2: 6-9
+  d item 3: 8-8             e item 4: 9-11
+";
+        assert_eq!(picture, expected);
+        let picture = log_picture(12, &areas[..3], None);
+        assert!(picture.contains("  |aaaabb**<<..|\n"), "{picture}");
+    }
+
+    /// What comes later does not make an item cover its bytes.
+    #[test]
+    fn items_in_another_order_are_drawn() {
+        let picture = log_picture(9, &[(1, 3, 3), (1, 0, 3), (1, 6, 3)], None);
+        let expected = "\
+Phase 1: 3 items, 3 of 9 bytes covered
+  |bbb>>>>>>|
+  begin beyond the covered end: 2 items (0, 2)
+  > item 0: 3-5             b item 1: 0-2             > item 2: 6-8
+";
+        assert_eq!(picture, expected);
+    }
+
+    /// With the mark of the refused item, and named with the side it is on.
+    #[test]
+    fn refused_item_below_or_beyond_the_covered_end() {
+        let picture = log_picture(8, &[(1, 0, 4), (1, 3, 3)], Some(1));
+        assert!(picture.contains("  |aaa*!!..|\n"), "{picture}");
+        let below = "  begin below the covered end: 1 item (1)\n";
+        assert!(picture.contains(below), "{picture}");
+        assert!(picture.contains("! item 1: 3-5"), "{picture}");
+        let picture = log_picture(8, &[(1, 0, 4), (1, 5, 3)], Some(1));
+        assert!(picture.contains("  |aaaa.!!!|\n"), "{picture}");
+        let beyond = "  begin beyond the covered end: 1 item (1)\n";
+        assert!(picture.contains(beyond), "{picture}");
+        assert!(picture.contains("! item 1: 5-7"), "{picture}");
     }
 
     #[test]
@@ -209,17 +286,18 @@ Phase 1: 2 items, 4 of 12 bytes covered without a gap
         let mut areas: Vec<_> = (0..16).map(|index| (1, index * 512, 512)).collect();
         areas[5].2 = 511;
         let picture = log_picture(8192, &areas, None);
-        let bar = "aaaabbbbccccddddeeeefff-gggghhhhiiiijjjjkkkkllllmmmmnnnnoooopppp";
+        let bar = format!("aaaabbbbccccddddeeeefff-{}", ">".repeat(40));
         assert!(picture.contains(&format!("|{bar}|")), "{picture}");
         assert!(picture.contains("gap: no item covers 3071-3071 (1 byte)"));
+        assert!(picture.contains(": 10 items (6, 7, 8, 9, 10, 11, 12, 13, ...)"));
     }
 
     #[test]
     fn shared_and_refused_bytes_are_marked() {
-        let areas = [(1, 0, 4), (1, 3, 3), (1, 6, 2)];
+        let areas = [(1, 0, 4), (1, 3, 3), (1, 4, 4)];
         let picture = log_picture(8, &areas, Some(2));
-        assert!(picture.contains("|aaa*bb!!|"), "{picture}");
-        assert!(picture.contains("! item 2: 6-7"));
+        assert!(picture.contains("|aaa***!!|"), "{picture}");
+        assert!(picture.contains("! item 2: 4-7"));
     }
 
     /// With two bytes to a cell, the second one alone.
@@ -227,7 +305,7 @@ Phase 1: 2 items, 4 of 12 bytes covered without a gap
     fn one_byte_marks_its_cell() {
         let areas = [(1, 0, 4), (1, 3, 3), (1, 9, 1)];
         let picture = log_picture(128, &areas, Some(2));
-        assert!(picture.contains("|a*b.!..."), "{picture}");
+        assert!(picture.contains("|a*<.!..."), "{picture}");
     }
 
     #[test]
@@ -245,17 +323,11 @@ Phase 1: 2 items, 4 of 12 bytes covered without a gap
     }
 
     #[test]
-    fn eight_items_outside_are_listed() {
-        let eight = outside_sentence(&[0, 1, 2, 3, 4, 5, 6, 7]);
-        assert!(
-            eight.ends_with("8 items (0, 1, 2, 3, 4, 5, 6, 7)."),
-            "{eight}"
-        );
-        let nine = outside_sentence(&[0, 1, 2, 3, 4, 5, 6, 7, 8]);
-        assert!(
-            nine.ends_with("9 items (0, 1, 2, 3, 4, 5, 6, 7, ...)."),
-            "{nine}"
-        );
+    fn eight_numbers_are_listed() {
+        let eight = numbered(&[0, 1, 2, 3, 4, 5, 6, 7]);
+        assert_eq!(eight, "8 items (0, 1, 2, 3, 4, 5, 6, 7)");
+        let nine = numbered(&[0, 1, 2, 3, 4, 5, 6, 7, 8]);
+        assert_eq!(nine, "9 items (0, 1, 2, 3, 4, 5, 6, 7, ...)");
     }
 
     #[test]
@@ -269,7 +341,7 @@ Phase 1: 2 items, 4 of 12 bytes covered without a gap
     #[test]
     fn empty_log_has_no_bar() {
         let picture = log_picture(0, &[], None);
-        let expected = "Phase 1: 0 items, 0 of 0 bytes covered without a gap\n";
+        let expected = "Phase 1: 0 items, 0 of 0 bytes covered\n";
         assert_eq!(picture, expected);
     }
 
@@ -282,6 +354,8 @@ Phase 1: 2 items, 4 of 12 bytes covered without a gap
         let picture = draw(&reading(&lengths(&[8192; 8]), &seal), Some(19_999));
         assert!(picture.lines().all(|line| line.len() <= 80), "{picture}");
         assert!(picture.contains("Not drawn"), "{picture}");
+        assert!(picture.contains("begin below"), "{picture}");
+        assert!(picture.contains("begin beyond"), "{picture}");
         assert!(picture.contains("Damaged from item 20000"), "{picture}");
     }
 
@@ -293,8 +367,13 @@ Phase 1: 2 items, 4 of 12 bytes covered without a gap
             (262_143, 61_440..65_536, 6),
             (2_684_353, 61_440..65_536, 6),
         ] {
-            let areas = vec![Covered { item, bytes }; ITEMS_LISTED];
-            let text = item_rows(&areas, None);
+            let begins = Ordering::Equal;
+            let area = Placed {
+                item,
+                bytes,
+                begins,
+            };
+            let text = item_rows(&vec![area; ITEMS_LISTED], None);
             assert_eq!(text.lines().count(), rows, "{text}");
             assert!(text.lines().all(|line| line.len() <= COLUMNS), "{text}");
         }
@@ -312,9 +391,9 @@ Phase 1: 2 items, 4 of 12 bytes covered without a gap
         let picture = picture_with(set, &[65_536, 65_537], &areas);
         let bar = "aaaabbbbccccddddeeeeffffgggghhhhiiiijjjjkkkkllllmmmmnnnnoooopppp";
         assert!(picture.contains(&format!("|{bar}|")), "{picture}");
-        let full = "Phase 1: 16 items, 65,536 of 65,536 bytes covered without a gap";
+        let full = "Phase 1: 16 items, 65,536 of 65,536 bytes covered";
         assert!(picture.contains(full), "{picture}");
-        let cut = "Phase 2: 0 items, 0 of 65,536 bytes covered without a gap";
+        let cut = "Phase 2: 0 items, 0 of 65,536 bytes covered";
         assert!(picture.contains(cut), "{picture}");
         assert!(
             picture.lines().all(|line| line.len() <= COLUMNS),

@@ -19,15 +19,17 @@ fn accepted_with_picture() {
     let expected = "\
 ACCEPTED: 6 items.
 
-Coverage of the logs. Each cell of a bar stands for equally many bytes, give or
-take one: a-z the item at its first byte (after z comes a), . no item, - an item
-on a part of it, * bytes that items share, ! the refused item.
+Coverage of the logs. The covered bytes of a phase run from 0 on, and an item
+that begins where they end covers its own. Each cell of a bar stands for equally
+many bytes, give or take one: a-z the item at its first byte (after z comes a),
+< if it begins below the covered end, > if beyond, . no item, - an item on a
+part of the cell, * bytes that items share, ! the refused item.
 
-Phase 1: 3 items, 30 of 30 bytes covered without a gap
+Phase 1: 3 items, 30 of 30 bytes covered
   |aaaaaaaaaabbbbbbbbbbcccccccccc|
   a item 0: 0-9             b item 2: 10-19           c item 4: 20-29
 
-Phase 2: 2 items, 8 of 8 bytes covered without a gap
+Phase 2: 2 items, 8 of 8 bytes covered
   |aaaabbbb|
   a item 1: 0-3             b item 3: 4-7
 
@@ -147,6 +149,42 @@ fn picture_of_refused_material() {
         "{text}"
     );
     assert!(text.ends_with("Items behind item 2 were not checked.\n"));
+}
+
+/// The picture of phase 1, and its end, where item 2 has this log offset in
+/// the place of 10.
+fn picture_with_offset(name: &str, offset: u8, rule: u32, phase_1: &str) {
+    let folder = small_folder(name);
+    let mut seal = folder.read("seal.bin");
+    seal[2 * ENTRY + 2] = offset;
+    folder.write("seal.bin", &seal);
+    let text = folder.audit(&[]).ended(1);
+    let start = format!("REFUSED by rule {rule} at item 2:");
+    assert!(text.starts_with(&start), "{text}");
+    let drawn = format!("\n\nPhase 1: 3 items, 10 of 30 bytes covered\n{phase_1}\nPhase 2:");
+    assert!(text.contains(&drawn), "{text}");
+    assert!(text.ends_with("Items behind item 2 were not checked.\n"));
+}
+
+#[test]
+fn picture_of_an_item_below_the_covered_end() {
+    let phase_1 = "  |aaaaaaaaa*!!!!!!!!!.>>>>>>>>>>|
+  gap: no item covers 19-19 (1 byte)
+  begin below the covered end: 1 item (2)
+  begin beyond the covered end: 1 item (4)
+  a item 0: 0-9             ! item 2: 9-18            > item 4: 20-29
+";
+    picture_with_offset("below", 9, 19, phase_1);
+}
+
+#[test]
+fn picture_of_an_item_beyond_the_covered_end() {
+    let phase_1 = "  |aaaaaaaaaa.!!!!!!!!!*>>>>>>>>>|
+  gap: no item covers 10-10 (1 byte)
+  begin beyond the covered end: 2 items (2, 4)
+  a item 0: 0-9             ! item 2: 11-20           > item 4: 20-29
+";
+    picture_with_offset("beyond", 11, 20, phase_1);
 }
 
 #[test]

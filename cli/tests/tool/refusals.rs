@@ -280,6 +280,6 @@ fn rule_22() {
 #[test]
 fn rule_23() {
     let words = "some phase's log is not covered up to its length. Of phase 2, 8 of 9 bytes are \
-                 covered without a gap.";
+                 covered.";
     refused(23, None, words, |files| files.set_lengths(&[30, 9]));
 }

@@ -385,7 +385,7 @@ fn rule_23() {
     for (set, length, capacity) in [(SETS[0], 3, "512"), (SETS[2], 3, "65,536")] {
         let words = format!(
             "some phase's log is not covered up to its length. Of phase 2, {length} of {capacity} \
-             bytes are covered without a gap."
+             bytes are covered."
         );
         let (first, all) = (set.data_limit, set.log_capacity);
         refused(set, 23, None, &words, |files| {

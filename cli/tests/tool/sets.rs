@@ -14,9 +14,11 @@ fn folder_of(name: &str, set: Set) -> Folder {
 }
 
 const LEGEND: &str = "\
-Coverage of the logs. Each cell of a bar stands for equally many bytes, give or
-take one: a-z the item at its first byte (after z comes a), . no item, - an item
-on a part of it, * bytes that items share, ! the refused item.
+Coverage of the logs. The covered bytes of a phase run from 0 on, and an item
+that begins where they end covers its own. Each cell of a bar stands for equally
+many bytes, give or take one: a-z the item at its first byte (after z comes a),
+< if it begins below the covered end, > if beyond, . no item, - an item on a
+part of the cell, * bytes that items share, ! the refused item.
 ";
 
 #[test]
@@ -36,13 +38,12 @@ fn pictures() {
     let pictures = [
         (
             set(16, 1, 512),
-            "Phase 1: 1 item, 1 of 1 byte covered without a gap\n  |a|\n  a item 0: 0-0\n"
-                .to_string(),
+            "Phase 1: 1 item, 1 of 1 byte covered\n  |a|\n  a item 0: 0-0\n".to_string(),
         ),
         (
             set(16, 4096, 4096),
             format!(
-                "Phase 1: 1 item, 4,096 of 4,096 bytes covered without a gap\n  |{}|\n  \
+                "Phase 1: 1 item, 4,096 of 4,096 bytes covered\n  |{}|\n  \
                  a item 0: 0-4095\n",
                 "a".repeat(64)
             ),
@@ -55,7 +56,7 @@ ACCEPTED: 6 items.
 
 {LEGEND}
 {phase_1}
-Phase 2: 3 items, 3 of 3 bytes covered without a gap
+Phase 2: 3 items, 3 of 3 bytes covered
   |abc|
   a item 1: 0-0             b item 2: 1-1             c item 3: 2-2
 
@@ -93,7 +94,7 @@ fn picture_of_refused_material() {
     folder.write("seal.bin", &seal);
     let text = folder.audit(&[]).ended(1);
     assert!(text.starts_with("REFUSED by rule 21 at item 1:"), "{text}");
-    assert!(text.contains("  |!.b|\n"), "{text}");
+    assert!(text.contains("  |!.>|\n"), "{text}");
     assert!(
         text.contains("gap: no item covers 1-1 (1 byte)\n"),
         "{text}"
@@ -115,7 +116,7 @@ fn largest(name: &str) -> Folder {
 fn picture_of_the_largest_log() {
     let text = largest("largest-picture").audit(&[]).ended(0);
     assert_narrow(&text);
-    let heading = "Phase 1: 16 items, 65,536 of 65,536 bytes covered without a gap\n";
+    let heading = "Phase 1: 16 items, 65,536 of 65,536 bytes covered\n";
     assert!(text.contains(heading), "{text}");
     let bar = "aaaabbbbccccddddeeeeffffgggghhhhiiiijjjjkkkkllllmmmmnnnnoooopppp";
     assert!(text.contains(&format!("  |{bar}|\n")), "{text}");
