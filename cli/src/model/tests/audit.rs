@@ -183,46 +183,153 @@ fn refusal_18() {
     assert_eq!(long.audit(), (18, 0));
 }
 
+/// One phase of 20 bytes, N = 3.
+fn audit_in_one_phase(items: [Option<(u8, u32, u32)>; 3]) -> (u32, u32) {
+    Case::of(store(1, 1, 3), &[20], &items).audit()
+}
+
+/// The covered bytes end at 5, then at 10.
 #[test]
-fn refusal_19() {
-    let audit = |second, third| {
+fn refusals_19_and_20_around_the_covered_end() {
+    for (second, third, expected) in [
+        ((1, 5, 10), (1, 15, 5), (0, 3)),
+        ((1, 4, 11), (1, 15, 5), (19, 1)),
+        ((1, 6, 9), (1, 15, 5), (20, 1)),
+        ((1, 4, 1), (1, 5, 15), (19, 1)),
+        ((1, 0, 1), (1, 5, 15), (19, 1)),
+        ((1, 0, 5), (1, 5, 15), (19, 1)),
+        ((1, 0, 20), (1, 5, 15), (19, 1)),
+        ((1, 19, 1), (1, 5, 15), (20, 1)),
+        ((1, 5, 5), (1, 10, 10), (0, 3)),
+        ((1, 5, 5), (1, 9, 11), (19, 2)),
+        ((1, 5, 5), (1, 11, 9), (20, 2)),
+        ((1, 5, 5), (1, 5, 5), (19, 2)),
+        ((1, 5, 5), (1, 0, 5), (19, 2)),
+        ((1, 5, 5), (1, 2, 1), (19, 2)),
+    ] {
         let items = [Some((1, 0, 5)), Some(second), Some(third)];
-        Case::of(store(1, 3, 1), &[20], &items).audit()
-    };
-    assert_eq!(audit((1, 5, 10), (1, 15, 5)), (0, 3));
-    assert_eq!(audit((1, 4, 1), (1, 15, 5)), (19, 1));
-    assert_eq!(audit((1, 0, 1), (1, 15, 5)), (19, 1));
-    // Beside and upon a waiting item.
-    assert_eq!(audit((1, 10, 10), (1, 5, 5)), (0, 3));
-    assert_eq!(audit((1, 10, 10), (1, 5, 6)), (19, 2));
-    assert_eq!(audit((1, 10, 5), (1, 14, 2)), (19, 2));
-    assert_eq!(audit((1, 10, 5), (1, 8, 10)), (19, 2));
+        assert_eq!(audit_in_one_phase(items), expected, "{second:?}, {third:?}");
+    }
 }
 
-/// Single bytes from 1 on wait for byte 0.
+/// No entry is taken yet, whatever fillers are.
 #[test]
-fn refusal_20() {
-    let audit = |waiting: u32| {
-        let length = waiting + 1;
-        let mut items: Vec<_> = (1..length).map(|offset| Some((1, offset, 1))).collect();
-        items.push(Some((1, 0, 1)));
-        Case::of(store(1, length, 1), &[length], &items).audit()
-    };
-    assert_eq!(audit(16), (0, 17));
-    assert_eq!(audit(17), (20, 16));
+fn refusal_20_of_the_first_entry() {
+    let rest = [Some((1, 0, 20)), None];
+    let audit = |first| audit_in_one_phase([first, rest[0], rest[1]]);
+    assert_eq!(audit(None), (0, 3));
+    for offset in [1, 2, 19] {
+        assert_eq!(audit(Some((1, offset, 1))), (20, 0));
+        assert_eq!(
+            audit_in_one_phase([None, None, Some((1, offset, 1))]),
+            (20, 2)
+        );
+    }
+    assert_eq!(audit(Some((1, 0, 1))), (19, 1));
 }
 
-/// Another phase's items do not count, nor do those reached since.
+/// Together the areas are all bytes of the log, and none shares one.
 #[test]
-fn waiting_items_are_counted_by_phase() {
-    let mut items: Vec<_> = (1..17).map(|offset| Some((1, offset, 1))).collect();
-    items.push(Some((2, 1, 1)));
-    items.push(Some((1, 0, 1)));
-    items.extend((18..34).map(|offset| Some((1, offset, 1))));
-    items.push(Some((2, 0, 1)));
-    items.push(Some((1, 17, 1)));
-    let case = Case::of(store(2, items.len() as u32, 1), &[34, 2], &items);
-    assert_eq!(case.audit(), (0, items.len() as u32));
+fn refusal_20_of_entries_in_another_order() {
+    let areas = [Some((1, 0, 5)), Some((1, 5, 5)), Some((1, 10, 10))];
+    for (order, expected) in [
+        ([0, 1, 2], (0, 3)),
+        ([0, 2, 1], (20, 1)),
+        ([1, 0, 2], (20, 0)),
+        ([1, 2, 0], (20, 0)),
+        ([2, 0, 1], (20, 0)),
+        ([2, 1, 0], (20, 0)),
+    ] {
+        assert_eq!(
+            audit_in_one_phase(order.map(|index| areas[index])),
+            expected
+        );
+    }
+}
+
+/// A filler covers nothing and is never out of order.
+#[test]
+fn fillers_between_entries() {
+    for (third, expected) in [
+        ((1, 4, 16), (19, 2)),
+        ((1, 5, 15), (0, 3)),
+        ((1, 6, 14), (20, 2)),
+    ] {
+        let items = [Some((1, 0, 5)), None, Some(third)];
+        assert_eq!(audit_in_one_phase(items), expected);
+    }
+}
+
+/// The covered bytes of phase 1 end at 4, those of phase 2 at 6 and those of
+/// phase 3 at 0 where the last entry comes.
+#[test]
+fn each_phase_has_its_covered_end() {
+    for (last, lengths, expected) in [
+        ((1, 4, 2), [6, 6, 0], (0, 6)),
+        ((1, 3, 2), [6, 6, 0], (19, 5)),
+        ((1, 5, 1), [6, 6, 0], (20, 5)),
+        ((1, 6, 1), [7, 6, 0], (20, 5)),
+        ((2, 6, 2), [4, 8, 0], (0, 6)),
+        ((2, 5, 2), [4, 8, 0], (19, 5)),
+        ((2, 4, 2), [4, 8, 0], (19, 5)),
+        ((2, 7, 1), [4, 8, 0], (20, 5)),
+        ((3, 0, 2), [4, 6, 2], (0, 6)),
+        ((3, 1, 1), [4, 6, 2], (20, 5)),
+        ((3, 4, 1), [4, 6, 5], (20, 5)),
+    ] {
+        let items = [
+            Some((2, 0, 3)),
+            Some((1, 0, 1)),
+            Some((2, 3, 3)),
+            None,
+            Some((1, 1, 3)),
+            Some(last),
+        ];
+        let case = Case::of(store(3, 2, 3), &lengths, &items);
+        assert_eq!(case.audit(), expected, "{last:?}");
+    }
+}
+
+/// Items behind one refused by 19 or 20 may be anything, and so may its tag.
+#[test]
+fn nothing_behind_a_refused_entry_is_read() {
+    for (offset, refusal) in [(4, 19), (6, 20)] {
+        let items = [Some((1, 0, 5)), Some((1, offset, 1)), Some((1, 5, 15))];
+        let case = Case::of(store(1, 1, 3), &[20], &items);
+        let expected = (refusal, 1);
+        assert_eq!(case.audit(), expected);
+        assert_eq!(case.changed(|case| case.seal_file[68] ^= 1), expected);
+        assert_eq!(case.changed(|case| case.seal_file[99] ^= 1), expected);
+        assert_eq!(case.changed(|case| case.seal_file[100] = 0), expected);
+        assert_eq!(case.changed(|case| case.seal_file[110] = 9), expected);
+        assert_eq!(case.changed(|case| case.seal_file.truncate(101)), expected);
+        assert_eq!(case.changed(|case| case.seal_file.truncate(100)), expected);
+        // What stands before it is read first.
+        assert_eq!(case.changed(|case| case.seal_file[49] ^= 1), (21, 0));
+    }
+}
+
+/// An area that ends at its phase's length may begin anywhere, as far as 18
+/// goes; one byte further it may not.
+#[test]
+fn refusal_18_before_19_and_20() {
+    for (offset, length, expected) in [
+        (4, 4, (19, 1)),
+        (4, 5, (18, 1)),
+        (6, 2, (20, 1)),
+        (6, 3, (18, 1)),
+        (0, 8, (19, 1)),
+        (0, 9, (18, 1)),
+        (7, 1, (20, 1)),
+        (8, 1, (18, 1)),
+        (u32::MAX, 1, (18, 1)),
+        (u32::MAX, 6, (18, 1)),
+        (u32::MAX - 2, 8, (18, 1)),
+    ] {
+        let items = [Some((1, 0, 5)), Some((1, offset, length))];
+        let case = Case::of(store(1, 1, 2), &[8], &items);
+        assert_eq!(case.audit(), expected, "{length} bytes at {offset}");
+    }
 }
 
 #[test]
@@ -252,9 +359,11 @@ fn refusal_23() {
     let case = four_items();
     assert_eq!(case.changed(|case| case.log_lengths[0] = 8), (23, 0));
     assert_eq!(case.changed(|case| case.log_lengths[1] = 4), (23, 0));
-    // Waiting bytes are not covered.
-    let waiting = Case::of(store(1, 1, 1), &[2], &[Some((1, 1, 1))]);
-    assert_eq!(waiting.audit(), (23, 0));
+    // A byte is missing in front of the last entry, then behind it.
+    for (offset, expected) in [(1, (20, 0)), (0, (23, 0))] {
+        let case = Case::of(store(1, 1, 1), &[2], &[Some((1, offset, 1))]);
+        assert_eq!(case.audit(), expected);
+    }
 }
 
 #[test]

@@ -38,25 +38,19 @@ fn every_byte_leads_to_its_item() {
     assert_found(&four_items(), &[(0, 1, 0, 5), (1, 2, 0, 3), (2, 1, 5, 2)]);
 }
 
-/// Items wait and fillers stand among them; two phases have the same areas.
+/// Fillers stand among them; two phases have the same areas.
 #[test]
-fn items_out_of_order() {
+fn items_of_two_phases_in_turns() {
     let items = [
+        Some((2, 0, 4)),
+        None,
+        Some((1, 0, 4)),
         Some((2, 4, 6)),
         None,
         Some((1, 4, 6)),
-        Some((1, 1, 3)),
-        Some((2, 0, 4)),
-        Some((1, 0, 1)),
     ];
     let case = Case::of(store(2, 3, 2), &[10, 10], &items);
-    let entries = [
-        (0, 2, 4, 6),
-        (2, 1, 4, 6),
-        (3, 1, 1, 3),
-        (4, 2, 0, 4),
-        (5, 1, 0, 1),
-    ];
+    let entries = [(0, 2, 0, 4), (2, 1, 0, 4), (3, 2, 4, 6), (5, 1, 4, 6)];
     assert_found(&case, &entries);
 }
 
@@ -103,16 +97,14 @@ fn refusals_of_the_audit_come_first() {
     assert_eq!(of(|case| case.seal_file[151] ^= 1), (17, 3, 0, 0));
     assert_eq!(of(|case| case.seal_file[101] = 3), (18, 2, 0, 0));
     assert_eq!(of(|case| case.seal_file[102] = 4), (19, 2, 0, 0));
+    assert_eq!(of(leave_a_gap), (20, 2, 0, 0));
     assert_eq!(of(|case| case.log_memory[8192] ^= 1), (21, 1, 0, 0));
     assert_eq!(of(|case| case.seal_file.truncate(150)), (22, 0, 0, 0));
     assert_eq!(of(|case| case.log_lengths[0] = 8), (23, 0, 0, 0));
 }
 
-#[test]
-fn refusal_20_comes_first() {
-    let items: Vec<_> = (1..19).map(|offset| Some((1, offset, 1))).collect();
-    let case = Case::of(store(1, 18, 1), &[19], &items);
-    for (phase, offset) in [(1, 1), (1, 19), (2, 0)] {
-        assert_eq!(look_up(&case, phase, offset), (20, 16, 0, 0));
-    }
+/// Before the third of four items.
+fn leave_a_gap(case: &mut Case) {
+    case.log_lengths[0] = 8;
+    case.seal_file[102] = 6;
 }

@@ -336,3 +336,19 @@ fn refusal_18() {
         assert_eq!(audit((1, 0, set.data_limit)), expected, "{set:?}");
     }
 }
+
+/// The longest data, then a byte in front of the covered end, at it, or behind.
+#[test]
+fn refusals_19_and_20() {
+    for set in SETS {
+        let most = set.data_limit;
+        // The longest data may leave no room in the log.
+        let length = (most + 2).min(set.log_capacity);
+        for (offset, answer) in [(most - 1, (19, 1)), (most, (23, 0)), (most + 1, (20, 1))] {
+            let items = [Some((1, 0, most)), Some((1, offset, 1))];
+            let case = Case::of(store_of(Some(set), 1, 1, 2), &[length], &items);
+            let expected = if offset < length { answer } else { (18, 1) };
+            assert_eq!(case.audit(), expected, "{set:?}, offset {offset}");
+        }
+    }
+}
