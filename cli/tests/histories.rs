@@ -54,6 +54,8 @@ mod random;
 mod ranges;
 #[path = "histories/requests.rs"]
 mod requests;
+#[path = "histories/rising.rs"]
+mod rising;
 #[path = "histories/rows.rs"]
 mod rows;
 #[path = "histories/sets.rs"]
@@ -200,7 +202,7 @@ fn audit_forged(case: &mut Case, tally: &mut Tally) -> Vec<u64> {
 const ENTRIES_LOOKED_FOR: usize = 60;
 
 /// From entries to their bytes and back, in what controllers left and in what
-/// forgers put in another order.
+/// forgers sealed.
 #[test]
 fn entries_are_found_again_from_their_bytes() {
     let run = Run::new(100);
@@ -257,6 +259,29 @@ fn check_row(random: &mut Random, tally: &mut Tally, own_set: Option<Set>, row: 
     }
 }
 
+/// By somebody who knows every key: entries in rising order, and one of them
+/// elsewhere.
+#[test]
+fn entries_begin_at_the_covered_end() {
+    let run = Run::new(1000);
+    let mut tallies = Tallies::default();
+    for mut case in run.each() {
+        let tally = tallies.of(case.own_set);
+        rising::check(&mut case, tally);
+    }
+    tallies.print();
+    if run.whole {
+        let refusals = [0, 18, 19, 20, 21, 23];
+        tallies.assert_all_met("audit", &refusals, 100);
+        tallies.assert_all_met("lookup", &[&refusals[..], &[24]].concat(), 100);
+        for (_, counted) in rising::Change::ALL {
+            tallies.assert_more(counted, run.cases / 3);
+        }
+        tallies.assert_more(rising::IN_TURNS, run.cases / 3);
+        tallies.assert_more(rising::LOOKED_UP, 3 * run.cases);
+    }
+}
+
 /// All bits of one small material, one after the other, and every length of
 /// each part of it.
 #[test]
@@ -267,9 +292,7 @@ fn no_bit_and_no_length_can_be_changed() {
         bits::check_changes(&mut case, tallies.of(own_set), own_set);
     }
     tallies.print();
-    // Too few items to wait, which 20 would refuse.
-    let met = AUDIT_REFUSALS.into_iter().filter(|refusal| *refusal != 20);
-    tallies.assert_all_met("audit", &met.collect::<Vec<u32>>(), 1);
+    tallies.assert_all_met("audit", &AUDIT_REFUSALS, 1);
 }
 
 /// Sets one beyond each edge of the range, and those at the edges.

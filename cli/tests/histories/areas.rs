@@ -1,5 +1,7 @@
 //! The areas of entries and the orders in which a forger may present them.
 
+use std::collections::VecDeque;
+
 use pahyndoi::model::Set;
 
 use crate::random::Random;
@@ -7,21 +9,39 @@ use crate::random::Random;
 /// Phase, offset and data length.
 pub type Area = (u8, u32, u32);
 
-/// Areas that cover each phase's log without a gap, and the log lengths.
-/// Between them stand fillers, as none.
-pub fn random_areas(random: &mut Random, set: Set, phases: usize) -> (Vec<u32>, Vec<Option<Area>>) {
+/// The log lengths, and areas with fillers between them, as none.
+pub type Areas = (Vec<u32>, Vec<Option<Area>>);
+
+/// Areas that cover each phase's log without a gap, each beginning where the
+/// one of its phase before it ends.
+pub fn rising_areas(random: &mut Random, set: Set, phases: usize) -> Areas {
+    let (lengths, queues) = random_covers(random, set, phases);
+    (lengths, merge(random, queues))
+}
+
+/// The same areas, half of the time in another order.
+pub fn random_areas(random: &mut Random, set: Set, phases: usize) -> Areas {
+    let (lengths, mut queues) = random_covers(random, set, phases);
+    if random.once_in(2) {
+        for areas in &mut queues {
+            put_in_order(random, areas);
+        }
+    }
+    (lengths, merge(random, queues))
+}
+
+/// The length of each phase's log, and the areas that cover it.
+fn random_covers(random: &mut Random, set: Set, phases: usize) -> (Vec<u32>, Vec<Vec<Area>>) {
     let mut queues = Vec::new();
     let mut lengths = Vec::new();
     for phase in 1..=phases {
         let most = random.pick(&[0, 1, 5, 20, 40]);
         let count = random.up_to(most);
-        let (length, mut areas) = cover(random, set, phase as u8, count);
-        put_in_order(random, &mut areas);
-        areas.reverse();
+        let (length, areas) = cover(random, set, phase as u8, count);
         queues.push(areas);
         lengths.push(length);
     }
-    (lengths, merge(random, queues))
+    (lengths, queues)
 }
 
 /// This many areas, one behind the other from offset 0.
@@ -43,36 +63,37 @@ fn cover(random: &mut Random, set: Set, phase: u8, count: usize) -> (u32, Vec<Ar
     (offset, areas)
 }
 
-/// As they stand, mixed within a window, mixed all over, or with the first
-/// behind so many others that 16 wait, or nearly, or one more.
+/// As they stand, with two neighbours exchanged, with the first of some behind
+/// the others, mixed within a window, or mixed all over.
 fn put_in_order(random: &mut Random, areas: &mut [Area]) {
     let window = random.between(2, 20);
     match random.up_to(4) {
         0 => (),
-        1 => areas
+        1 if areas.len() > 1 => {
+            let first = random.index(areas.len() - 1);
+            areas.swap(first, first + 1);
+        }
+        2 => areas
+            .chunks_mut(window)
+            .for_each(|part| part.rotate_left(1)),
+        3 => areas
             .chunks_mut(window)
             .for_each(|part| random.shuffle(part)),
-        2 => random.shuffle(areas),
-        _ => {
-            let group = random.pick(&[15, 16, 17, 17, 17, 18, 19]);
-            for part in areas.chunks_mut(group) {
-                part.rotate_left(1);
-            }
-        }
+        _ => random.shuffle(areas),
     }
 }
 
-/// One sequence out of the phases' own, whose last comes first; now and then a
-/// filler.
-fn merge(random: &mut Random, mut queues: Vec<Vec<Area>>) -> Vec<Option<Area>> {
+/// One sequence out of the phases' own; now and then a filler.
+fn merge(random: &mut Random, queues: Vec<Vec<Area>>) -> Vec<Option<Area>> {
     let mut merged = Vec::new();
+    let mut queues: Vec<_> = queues.into_iter().map(VecDeque::from).collect();
     queues.retain(|queue| !queue.is_empty());
     while !queues.is_empty() {
         if random.once_in(10) {
             merged.push(None);
         }
         let chosen = random.index(queues.len());
-        merged.push(queues[chosen].pop());
+        merged.push(queues[chosen].pop_front());
         queues.retain(|queue| !queue.is_empty());
     }
     merged
@@ -95,7 +116,7 @@ pub fn spoil(random: &mut Random, set: Set, areas: &mut [Option<Area>], phases: 
     };
     let area = areas[index].expect("an entry");
     let beside = areas[other].expect("an entry");
-    areas[index] = match random.up_to(7) {
+    areas[index] = match random.up_to(9) {
         0 => None,
         1 => Some(out_of_range(random, set, area, phases)),
         2 => Some(huge(random, set, area)),
@@ -105,8 +126,19 @@ pub fn spoil(random: &mut Random, set: Set, areas: &mut [Option<Area>], phases: 
             Some(beside)
         }
         6 => Some((area.0, area.1, area.2.wrapping_add(1))),
-        _ => Some((area.0, area.1.wrapping_add(1), area.2)),
+        _ => Some(moved(random, area)),
     };
+}
+
+/// Begins one byte before the area or one behind its first, and ends where it
+/// does, or so much earlier or later.
+fn moved(random: &mut Random, (phase, offset, length): Area) -> Area {
+    match random.up_to(3) {
+        0 => (phase, offset.wrapping_sub(1), length),
+        1 => (phase, offset.wrapping_sub(1), length.wrapping_add(1)),
+        2 => (phase, offset.wrapping_add(1), length),
+        _ => (phase, offset.wrapping_add(1), length.wrapping_sub(1)),
+    }
 }
 
 fn out_of_range(

@@ -73,9 +73,40 @@ pub fn seal_with_tags(
     seal_by(&shape.material(random), lengths, areas, tags, Rules::RIGHT)
 }
 
-/// Seals the areas in their places under the keys of an unused store, with a
-/// tag length for each item, by these rules.
-pub fn seal_by(
+/// So many chunks that the areas fill them with fillers behind.
+pub fn filled_up(
+    own_set: Option<Set>,
+    ratchet: usize,
+    phases: usize,
+    mut areas: Vec<Option<Area>>,
+) -> (Shape, Vec<Option<Area>>) {
+    let chunk_count = areas.len().div_ceil(ratchet).max(1);
+    areas.resize(chunk_count * ratchet, None);
+    let shape = Shape {
+        own_set,
+        phases,
+        chunk_count,
+        ratchet,
+        seal_memory: 0,
+    };
+    (shape, areas)
+}
+
+/// Seals the areas in their places under the keys of an unused store, by these
+/// rules.
+pub fn seal(
+    unused: &Material,
+    set: Set,
+    lengths: &[u32],
+    areas: &[Option<Area>],
+    rules: Rules,
+) -> Presentation {
+    let tags = vec![usize::from(set.tag_length); areas.len()];
+    seal_by(unused, lengths, areas, &tags, rules)
+}
+
+/// The same with a tag length for each item.
+fn seal_by(
     unused: &Material,
     lengths: &[u32],
     areas: &[Option<Area>],

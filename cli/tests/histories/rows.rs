@@ -21,17 +21,36 @@ fn row(name: &'static str, lengths: &[u32], areas: &[Area], answer: (u32, u32)) 
     }
 }
 
+/// The same with fillers among the entries, as none.
+fn row_with_fillers(
+    name: &'static str,
+    lengths: &[u32],
+    areas: &[Option<Area>],
+    answer: (u32, u32),
+) -> Row {
+    Row {
+        areas: areas.to_vec(),
+        ..row(name, lengths, &[], answer)
+    }
+}
+
 /// Those for a store with this set.
 pub fn rows(set: Set) -> Vec<Row> {
-    // Three of the areas that overlap, or do not, are so long.
-    let overlaps = match set.data_limit >= 15 {
-        true => overlap_rows(),
-        false => Vec::new(),
-    };
-    [range_rows(set), end_rows(set), overlaps, waiting_rows()]
-        .into_iter()
-        .flatten()
-        .collect()
+    let length = set.data_limit.min(5);
+    [
+        range_rows(set),
+        end_rows(set),
+        full_rows(set),
+        first_rows(set),
+        second_rows(length),
+        third_rows(length),
+        phase_rows(length),
+        filler_rows(length),
+        order_rows(),
+    ]
+    .into_iter()
+    .flatten()
+    .collect()
 }
 
 fn range_rows(set: Set) -> Vec<Row> {
@@ -41,7 +60,6 @@ fn range_rows(set: Set) -> Vec<Row> {
     vec![
         row("whole log", &[limit], &[(1, 0, limit)], (0, 1)),
         row("a byte beyond", &[limit - 1], &[(1, 0, limit)], (18, 0)),
-        row("waiting to the end", &[2], &[(1, 1, 1)], (23, 0)),
         one("data one byte too long", (1, 0, limit + 1), (18, 0)),
         one("no data", (1, 0, 0), (18, 0)),
         one("phase 0", (0, 0, 1), (18, 0)),
@@ -58,66 +76,184 @@ fn end_rows(set: Set) -> Vec<Row> {
     let (limit, end) = (set.data_limit, set.log_capacity);
     // A longer log than its place allows is refused before that.
     let left = if limit < end { (23, 0) } else { (5, 0) };
+    let last = if limit < end { (20, 0) } else { (23, 0) };
     let both = |name, area, answer| row(name, &[end, end], &[area], answer);
     vec![
         row("a byte left", &[limit + 1], &[(1, 0, limit)], left),
         row("log too long", &[end + 1], &[(1, 0, limit)], (5, 0)),
         row("second too long", &[0, end + 1], &[(2, 0, limit)], (5, 0)),
-        both("last byte", (1, end - 1, 1), (23, 0)),
-        both("last bytes", (1, end - limit, limit), (23, 0)),
+        both("last byte", (1, end - 1, 1), (20, 0)),
+        both("last bytes", (1, end - limit, limit), last),
         both("one byte behind", (1, end, 1), (18, 0)),
         both("into the next log", (1, end - limit + 1, limit), (18, 0)),
         both("behind the last log", (2, end, 1), (18, 0)),
     ]
 }
 
-fn overlap_rows() -> Vec<Row> {
-    let third = |name, second, third, answer| row(name, &[20], &[(1, 0, 5), second, third], answer);
+/// The most entries that fill a log here.
+const FILLING: u32 = 20;
+
+/// A log filled by as few entries as can, where these are not too many, and a
+/// byte at its end once more, and behind it.
+fn full_rows(set: Set) -> Vec<Row> {
+    let (limit, end) = (set.data_limit, set.log_capacity);
+    let count = end.div_ceil(limit);
+    if count > FILLING {
+        return Vec::new();
+    }
+    let begins = (0..count).map(|number| number * limit);
+    let full: Vec<Area> = begins
+        .map(|begin| (1, begin, limit.min(end - begin)))
+        .collect();
+    let with = |area| [&full[..], &[area]].concat();
     vec![
-        third("in order", (1, 5, 10), (1, 15, 5), (0, 3)),
-        third("last first", (1, 10, 10), (1, 5, 5), (0, 3)),
-        third("on covered bytes", (1, 4, 1), (1, 5, 15), (19, 1)),
-        third("on byte 0", (1, 0, 1), (1, 5, 15), (19, 1)),
-        third("into a waiting one", (1, 10, 10), (1, 5, 6), (19, 2)),
-        third("on a waiting end", (1, 10, 5), (1, 14, 2), (19, 2)),
-        third("round a waiting one", (1, 10, 5), (1, 8, 10), (19, 2)),
-        third("in a waiting one", (1, 10, 5), (1, 12, 1), (19, 2)),
-        third("twice", (1, 10, 5), (1, 10, 5), (19, 2)),
+        row("full log", &[end], &full, (0, count)),
+        row("on its end", &[end], &with((1, end - 1, 1)), (19, count)),
+        row("behind its end", &[end], &with((1, end, 1)), (18, count)),
+    ]
+}
+
+/// Nothing is covered yet.
+fn first_rows(set: Set) -> Vec<Row> {
+    let limit = set.data_limit;
+    let length = (limit + 1).min(set.log_capacity);
+    vec![
+        row("first at 1", &[2], &[(1, 1, 1)], (20, 0)),
+        row("first at 2", &[3], &[(1, 2, 1)], (20, 0)),
         row(
-            "the same in another phase",
-            &[5, 5],
-            &[(1, 0, 5), (2, 0, 5)],
-            (0, 2),
+            "first at 1, to the end",
+            &[length],
+            &[(1, 1, length - 1)],
+            (20, 0),
+        ),
+        row("first at 0", &[1], &[(1, 0, 1)], (0, 1)),
+    ]
+}
+
+/// Bytes are covered up to `n`.
+fn second_rows(n: u32) -> Vec<Row> {
+    let second = |name, offset, answer| {
+        let areas = [(1, 0, n), (1, offset, n), (1, 2 * n, n)];
+        row(name, &[3 * n], &areas, answer)
+    };
+    vec![
+        second("at the end", n, (0, 3)),
+        second("one below the end", n - 1, (19, 1)),
+        second("one beyond the end", n + 1, (20, 1)),
+        second("at 0 again", 0, (19, 1)),
+        second("as the third", 2 * n, (20, 1)),
+        second("behind the third", 3 * n, (18, 1)),
+    ]
+}
+
+/// Bytes are covered up to twice `n`.
+fn third_rows(n: u32) -> Vec<Row> {
+    let third = |name, offset, length, answer| {
+        let areas = [(1, 0, n), (1, n, n), (1, offset, length)];
+        row(name, &[3 * n], &areas, answer)
+    };
+    vec![
+        third("one below twice", 2 * n - 1, n, (19, 2)),
+        third("one below, to the end", 2 * n - 1, 1, (19, 2)),
+        third(
+            "one beyond twice",
+            2 * n + 1,
+            n - 1,
+            if n > 1 { (20, 2) } else { (18, 2) },
+        ),
+        third("as the one before", n, n, (19, 2)),
+        third("as the first", 0, n, (19, 2)),
+        third("within the first", n / 2, 1, (19, 2)),
+        third("within the one before", n + n / 2, 1, (19, 2)),
+        third(
+            "a byte short",
+            2 * n,
+            n - 1,
+            if n > 1 { (23, 0) } else { (18, 2) },
         ),
     ]
 }
 
-/// Bytes 1 to the count, then byte 0.
-fn first_last(phase: u8, count: u32) -> Vec<Area> {
-    let waiting = (1..=count).map(|offset| (phase, offset, 1));
-    waiting.chain([(phase, 0, 1)]).collect()
+/// Each phase has an end of its own.
+fn phase_rows(n: u32) -> Vec<Row> {
+    let last = |name, offset, answer| {
+        let areas = [(1, 0, n), (2, 0, n), (1, n, n), (2, offset, n)];
+        row(name, &[2 * n, 2 * n + 1], &areas, answer)
+    };
+    let third = |name, lengths: [u32; 3], area, answer| {
+        row(name, &lengths, &[(1, 0, n), (3, 0, n), area], answer)
+    };
+    vec![
+        row("in turns", &[n, n], &[(1, 0, n), (2, 0, n)], (0, 2)),
+        last("in turns, a byte left", n, (23, 0)),
+        last("one below in turns", n - 1, (19, 3)),
+        last("one beyond in turns", n + 1, (20, 3)),
+        last("at 0 in turns", 0, (19, 3)),
+        third("the first in the second", [n, n, n], (2, 0, n), (0, 3)),
+        third(
+            "the second in the second",
+            [n, 2 * n, n],
+            (2, n, n),
+            (20, 2),
+        ),
+        third(
+            "beyond the third",
+            [n, n, 2 * n + 1],
+            (3, n + 1, n),
+            (20, 2),
+        ),
+        third("below the third", [n, n, 2 * n], (3, n - 1, n), (19, 2)),
+    ]
 }
 
-fn waiting_rows() -> Vec<Row> {
-    let both = |count| {
-        let pairs = first_last(1, count).into_iter().zip(first_last(2, count));
-        let areas: Vec<Area> = pairs.flat_map(|(one, other)| [one, other]).collect();
+/// A filler has no area.
+fn filler_rows(n: u32) -> Vec<Row> {
+    let third = |name, offset, answer| {
+        let areas = [Some((1, 0, n)), None, Some((1, offset, n))];
+        row_with_fillers(name, &[2 * n + 1], &areas, answer)
+    };
+    let behind = |name, lengths: [u32; 1], offset, answer| {
+        row_with_fillers(name, &lengths, &[None, Some((1, offset, n))], answer)
+    };
+    vec![
+        behind("behind a filler", [n], 0, (0, 2)),
+        behind("behind a filler at 1", [n + 1], 1, (20, 1)),
+        third("a filler between", n, (23, 0)),
+        third("one below, a filler between", n - 1, (19, 2)),
+        third("one beyond, a filler between", n + 1, (20, 2)),
+    ]
+}
+
+/// Single bytes of 17 that together are all of the log, in other orders than
+/// the rising one.
+fn order_rows() -> Vec<Row> {
+    let rising: Vec<Area> = (0..17).map(|offset| (1, offset, 1)).collect();
+    let ordered = |change: fn(&mut [Area])| {
+        let mut areas = rising.clone();
+        change(&mut areas);
         areas
     };
-    let again: Vec<Area> = first_last(1, 16)
-        .into_iter()
-        .chain((18..34).map(|offset| (1, offset, 1)))
-        .chain([(1, 17, 1)])
-        .collect();
-    let mut apart: Vec<Area> = (0..16).map(|place| (1, 2 + 2 * place, 1)).collect();
-    apart.extend([(1, 0, 1), (1, 1, 1)]);
-    apart.extend((0..15).map(|place| (1, 3 + 2 * place, 1)));
+    let one = |name, change, answer| row(name, &[17], &ordered(change), answer);
+    let first_last = ordered(|areas| areas.rotate_left(1));
+    let of_phase_2 = first_last.iter().map(|area| (2, area.1, area.2));
+    let second = [&rising[..], &of_phase_2.collect::<Vec<Area>>()].concat();
     vec![
-        row("16 wait", &[17], &first_last(1, 16), (0, 17)),
-        row("17 wait", &[18], &first_last(1, 17), (20, 16)),
-        row("16 wait in each of two", &[17, 17], &both(16), (0, 34)),
-        row("17 wait in each of two", &[18, 18], &both(17), (20, 32)),
-        row("16 wait twice", &[34], &again, (0, 34)),
-        row("16 wait apart", &[33], &apart, (0, 33)),
+        one("rising", |_| (), (0, 17)),
+        one("the first last", |areas| areas.rotate_left(1), (20, 0)),
+        one("the last first", |areas| areas.rotate_right(1), (20, 0)),
+        one("falling", |areas| areas.reverse(), (20, 0)),
+        one("the first two exchanged", |areas| areas.swap(0, 1), (20, 0)),
+        one("two exchanged", |areas| areas.swap(8, 9), (20, 8)),
+        one(
+            "two far apart exchanged",
+            |areas| areas.swap(5, 14),
+            (20, 5),
+        ),
+        one(
+            "the last two exchanged",
+            |areas| areas.swap(15, 16),
+            (20, 15),
+        ),
+        row("the first last in phase 2", &[17, 17], &second, (20, 17)),
     ]
 }

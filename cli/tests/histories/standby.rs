@@ -5,11 +5,11 @@
 use pahyndoi::model::{Call, Head, Item, KEY_LENGTH, Material, Position, Set, State};
 
 use crate::answer::split;
-use crate::areas::{Area, random_areas};
+use crate::areas::rising_areas;
 use crate::calls;
 use crate::device::{Device, ID, Shape};
 use crate::exchanges::Stores;
-use crate::forgery;
+use crate::forgery::{filled_up, seal};
 use crate::honest::{random_calls, random_shape};
 use crate::lent::Stand;
 use crate::messages::{Message, Rules};
@@ -65,16 +65,14 @@ pub fn check_sealed(random: &mut Random, tally: &mut Tally, own_set: Option<Set>
 pub fn check_forged(random: &mut Random, tally: &mut Tally, own_set: Option<Set>) {
     let set = in_effect(own_set);
     let phases = random.between(1, 3);
-    let (lengths, areas) = random_areas(random, set, phases);
+    let (lengths, areas) = rising_areas(random, set, phases);
     let ratchet = random.pick(&[1, 2, 3, 5]);
     let (shape, areas) = filled_up(own_set, ratchet, phases, areas);
     let [device, standby] = random_pair(random, &shape)
         .map(|unused| seal(&unused, set, &lengths, &areas, Rules::RIGHT));
-    match split(device.compare(random, tally)) {
-        (0, _) => check_pair(random, tally, set, &device, &standby),
-        // More areas wait than may.
-        (refusal, _) => assert_eq!(refusal, 20),
-    }
+    let answer = split(device.compare(random, tally));
+    assert_eq!(answer, (0, areas.len() as u32));
+    check_pair(random, tally, set, &device, &standby);
 }
 
 /// Items, then keys, by each wrong rule: refused where the rule is used first,
@@ -160,36 +158,6 @@ fn assert_told_apart([device, standby]: &[Device; 2]) {
         assert_eq!(item.head, other.head);
         assert_ne!(item.tag, other.tag);
     }
-}
-
-/// So many chunks that the areas fill them with fillers behind.
-fn filled_up(
-    own_set: Option<Set>,
-    ratchet: usize,
-    phases: usize,
-    mut areas: Vec<Option<Area>>,
-) -> (Shape, Vec<Option<Area>>) {
-    let chunk_count = areas.len().div_ceil(ratchet).max(1);
-    areas.resize(chunk_count * ratchet, None);
-    let shape = Shape {
-        own_set,
-        phases,
-        chunk_count,
-        ratchet,
-        seal_memory: 0,
-    };
-    (shape, areas)
-}
-
-fn seal(
-    unused: &Material,
-    set: Set,
-    lengths: &[u32],
-    areas: &[Option<Area>],
-    rules: Rules,
-) -> Presentation {
-    let tags = vec![usize::from(set.tag_length); areas.len()];
-    forgery::seal_by(unused, lengths, areas, &tags, rules)
 }
 
 /// Fails where items, seal file or id of the standby pass as the device's.
