@@ -10,7 +10,7 @@ pub(super) fn groups(script: &mut Script) {
     one_phase(script);
     let case = eight_phases(script);
     refused_material(script, &case);
-    waiting(script);
+    other_order(script);
     refused_stores(script);
 }
 
@@ -113,7 +113,7 @@ fn eight_phases(script: &mut Script) -> Case {
 
 /// Item 4 begins at byte 191 of the seal file, item 11 at 523; it has 573.
 fn refused_material(script: &mut Script, case: &Case) {
-    script.label("lookup: audit's 15 to 19, 21 to 23, some where 24 holds too");
+    script.label("lookup: audit's 15 to 23, some where 24 holds too");
     let byte = |index: usize, value: u8| case.but(|case| case.seal_file[index] = value);
     let cut = |length| case.but(|case| case.seal_file.truncate(length));
     let length = |phase: usize, length| case.but(|case| case.log_lengths[phase - 1] = length);
@@ -128,37 +128,31 @@ fn refused_material(script: &mut Script, case: &Case) {
     script.expect_none((16, 9), &rolled_back, (1, 0));
     script.expect_none((17, 4), &byte(191 + 14, 2), (1, 11));
     script.expect_none((19, 4), &byte(191 + 2, 3), (0, 0));
+    script.expect_none((19, 4), &byte(191 + 2, 3), (1, 0));
+    script.expect_none((20, 4), &byte(191 + 2, 5), (1, 11));
+    script.expect_none((20, 4), &byte(191 + 2, 5), (1, 0));
     let altered = case.but(|case| case.log_memory[LOG_CAPACITY as usize * 7 + 9] ^= 1);
     script.expect_none((21, 9), &altered, (8, 9));
 }
 
-/// Items 0 to 15 wait for item 16, which has bytes 0 and 1; each has 2 bytes.
-fn waiting(script: &mut Script) {
-    script.label("lookup: 16 items that wait, and the one they wait for");
-    script.fresh(1, 1, 17, 850);
-    script.keep();
-    script.set_log_length(0, 2);
-    for first in 1..=16 {
-        script.append(1, 2, 10 * first);
-    }
-    script.set_log_length(0, 0);
-    script.append(1, 2, 1);
-    let case = Case::left(script).but(|case| case.log_lengths[0] = 34);
+/// Three entries of 2 bytes each, of which the last two are exchanged.
+fn other_order(script: &mut Script) {
+    script.label("lookup: three items; 20: the last two exchanged");
+    let [one, other] = [Some((1, 2, 2)), Some((1, 4, 2))];
+    let unused = Case::unused_of(script, Shape::of(1, 1, 3, 200));
+    let rising = unused.with_items(&[6], &[Some((1, 0, 2)), one, other]);
     for (offset, item) in [
-        (1, (16, 1, 0, 2)),
-        (2, (0, 1, 2, 2)),
-        (17, (7, 1, 16, 2)),
-        (33, (15, 1, 32, 2)),
+        (1, (0, 1, 0, 2)),
+        (2, (1, 1, 2, 2)),
+        (3, (1, 1, 2, 2)),
+        (4, (2, 1, 4, 2)),
     ] {
-        script.expect_item(item, &case, (1, offset));
+        script.expect_item(item, &rising, (1, offset));
     }
-    script.expect_none((24, 0), &case, (1, 34));
-    script.label("lookup: 20: a seventeenth waits");
-    let seventeen = case.but(|case| {
-        case.log_lengths[0] = 36;
-        case.seal_file[800 + 2] = 34;
-    });
-    script.expect_none((20, 16), &seventeen, (1, 35));
+    let exchanged = unused.with_items(&[6], &[Some((1, 0, 2)), other, one]);
+    for offset in [0, 2, 5, 6] {
+        script.expect_none((20, 1), &exchanged, (1, offset));
+    }
 }
 
 /// 24 holds in each row, since no phase has a byte.

@@ -24,14 +24,18 @@ fn uncovered(script: &mut Script) {
         let longer = case.but(|case| case.log_lengths[index] += 1);
         script.expect((23, 0), &longer);
     }
-    script.label("23: bytes that wait for byte 0, for byte 5, in phase 2");
+    script.label("23: bytes of a phase without entries; all of them covered");
     let unused = Case::unused(script, 2, 1, 2);
-    for (lengths, items) in [
-        ([2, 0], [Some((1, 1, 1)), None]),
-        ([8, 0], [Some((1, 0, 5)), Some((1, 6, 2))]),
-        ([8, 0], [Some((1, 6, 2)), Some((1, 0, 5))]),
-        ([1, 2], [Some((1, 0, 1)), Some((2, 1, 1))]),
+    for (lengths, items, answer) in [
+        ([1, 0], [None, None], (23, 0)),
+        ([5, 1], [Some((1, 0, 5)), None], (23, 0)),
+        ([1, 5], [Some((2, 0, 5)), None], (23, 0)),
+        ([5, 0], [Some((1, 0, 5)), None], (0, 2)),
+        ([0, 5], [Some((2, 0, 5)), None], (0, 2)),
+        ([9, 3], [Some((1, 0, 8)), Some((2, 0, 3))], (23, 0)),
+        ([8, 4], [Some((1, 0, 8)), Some((2, 0, 3))], (23, 0)),
+        ([8, 3], [Some((1, 0, 8)), Some((2, 0, 3))], (0, 2)),
     ] {
-        script.expect((23, 0), &unused.with_items(&lengths, &items));
+        script.expect(answer, &unused.with_items(&lengths, &items));
     }
 }

@@ -1,4 +1,4 @@
-//! Refusals 15 to 19 and 21: one item after another.
+//! Refusals 15 to 18 and 21: one item after another.
 
 use pahyndoi::model::Position;
 
@@ -14,8 +14,6 @@ pub(super) fn groups(script: &mut Script) {
     phases(script);
     data_lengths(script);
     areas(script);
-    shared_with_covered(script);
-    shared_with_waiting(script);
     tags(script);
     other_messages(script);
 }
@@ -108,16 +106,20 @@ fn areas(script: &mut Script) {
     script.label("18: the area ends at its phase's length, then one beyond");
     let unused = Case::unused(script, 2, 1, 1);
     for (lengths, area, answer) in [
+        ([8, 0], (1, 0, 8), (0, 1)),
         ([8, 3], (1, 0, 8), (23, 0)),
         ([8, 3], (1, 0, 9), (18, 0)),
+        ([8, 3], (1, 1, 7), (20, 0)),
         ([8, 3], (1, 1, 8), (18, 0)),
         ([8, 3], (1, 8, 1), (18, 0)),
-        ([8, 3], (2, 2, 1), (23, 0)),
+        ([0, 3], (2, 0, 3), (0, 1)),
+        ([8, 3], (2, 0, 4), (18, 0)),
+        ([8, 3], (2, 2, 1), (20, 0)),
         ([8, 3], (2, 3, 1), (18, 0)),
-        ([8192, 8192], (1, 8191, 1), (23, 0)),
+        ([8192, 8192], (1, 8191, 1), (20, 0)),
         ([8192, 8192], (1, 8191, 2), (18, 0)),
         ([8192, 8192], (1, 8192, 1), (18, 0)),
-        ([8192, 8192], (2, 7680, 512), (23, 0)),
+        ([8192, 8192], (2, 7680, 512), (20, 0)),
         ([8192, 8192], (2, 7681, 512), (18, 0)),
     ] {
         script.expect(answer, &unused.with_items(&lengths, &[Some(area)]));
@@ -131,48 +133,6 @@ fn areas(script: &mut Script) {
     ] {
         let case = unused.with_items(&[8192, 8192], &[Some((1, offset, length))]);
         script.expect((18, 0), &case);
-    }
-}
-
-/// The first of three items covers five bytes.
-fn shared_with_covered(script: &mut Script) {
-    script.label("19: beside covered bytes 0 to 4, and upon one of them");
-    let unused = Case::unused(script, 1, 1, 3);
-    for (second, third, answer) in [
-        ((1, 5, 10), Some((1, 15, 5)), (0, 3)),
-        ((1, 4, 1), None, (19, 1)),
-        ((1, 0, 1), None, (19, 1)),
-        ((1, 0, 6), None, (19, 1)),
-        ((1, 5, 5), Some((1, 9, 2)), (19, 2)),
-        ((1, 5, 5), Some((1, 2, 1)), (19, 2)),
-    ] {
-        let items = [Some((1, 0, 5)), Some(second), third];
-        script.expect(answer, &unused.with_items(&[20], &items));
-    }
-}
-
-/// The first of three items waits.
-fn shared_with_waiting(script: &mut Script) {
-    script.label("19: beside waiting bytes 10 to 14, and upon some of them");
-    let unused = Case::unused(script, 2, 1, 3);
-    for (second, third, answer) in [
-        ((1, 15, 5), Some((1, 0, 10)), (0, 3)),
-        ((1, 5, 5), Some((1, 0, 5)), (23, 0)),
-        ((1, 4, 7), None, (19, 1)),
-        ((1, 14, 1), None, (19, 1)),
-        ((1, 10, 5), None, (19, 1)),
-        ((1, 12, 1), None, (19, 1)),
-        ((1, 9, 7), None, (19, 1)),
-        ((1, 14, 2), None, (19, 1)),
-        ((1, 0, 11), None, (19, 1)),
-        ((1, 7, 3), Some((1, 6, 2)), (19, 2)),
-        ((1, 7, 3), Some((1, 11, 1)), (19, 2)),
-        ((2, 10, 5), Some((1, 0, 10)), (23, 0)),
-        ((2, 10, 5), Some((2, 14, 1)), (19, 2)),
-    ] {
-        let items = [Some((1, 10, 5)), Some(second), third];
-        let lengths = [20, if second.0 == 2 { 15 } else { 0 }];
-        script.expect(answer, &unused.with_items(&lengths, &items));
     }
 }
 

@@ -6,8 +6,8 @@ mod histories;
 mod items;
 mod order;
 mod presented;
+mod rising;
 mod standby;
-mod waiting;
 
 use pahyndoi::model::{Head, Header, Item, Position, chunk, key_at, plain_hmac, position};
 
@@ -16,7 +16,7 @@ use crate::record::*;
 
 pub(super) fn groups(script: &mut Script) {
     histories::groups(script);
-    waiting::groups(script);
+    rising::groups(script);
     presented::groups(script);
     items::groups(script);
     endings::groups(script);

@@ -1,13 +1,13 @@
 //! Two conditions at once: the earlier number is given.
 
-use super::{Case, Wanted, chunk_bytes, four_items};
+use super::{Case, chunk_bytes, four_items};
 use crate::script::Script;
 
 pub(super) fn groups(script: &mut Script) {
     of_material(script);
     of_items(script);
     of_areas(script);
-    of_waiting(script);
+    of_areas_and_places(script);
     of_the_end(script);
 }
 
@@ -77,30 +77,57 @@ fn of_items(script: &mut Script) {
     script.expect((21, 1), &both);
 }
 
+/// Bytes 0 to 4 of 8 are covered.
 fn of_areas(script: &mut Script) {
-    script.label("audit: 18 before 19; 19 before 21");
+    script.label("audit: 18 before 19, 20; these before 21; then it passes");
     let unused = Case::unused(script, 1, 1, 2);
-    let items = |second: Wanted| unused.with_items(&[8], &[Some((1, 0, 5)), second]);
-    script.expect((18, 1), &items(Some((1, 4, 5))));
-    let wrong = items(Some((1, 4, 4))).but(|case| case.seal_file[99] ^= 1);
-    script.expect((19, 1), &wrong);
+    let items = |second| unused.with_items(&[8], &[Some((1, 0, 5)), Some(second)]);
+    for (second, answer) in [
+        ((1, 4, 5), (18, 1)),
+        ((1, 4, 4), (19, 1)),
+        ((1, 6, 3), (18, 1)),
+        ((1, 6, 2), (20, 1)),
+        ((1, 5, 4), (18, 1)),
+        ((1, 5, 3), (21, 1)),
+    ] {
+        let wrong = items(second).but(|case| case.seal_file[99] ^= 1);
+        script.expect(answer, &wrong);
+    }
+    script.expect((0, 2), &items((1, 5, 3)));
+    script.label("audit: an item's 19, 20 before the next one's 15; 21 first");
+    let unused = Case::unused(script, 1, 1, 3);
+    for (offset, refusal) in [(4, 19), (6, 20)] {
+        let items = [Some((1, 0, 5)), Some((1, offset, 1)), None];
+        let mut case = unused.with_items(&[8], &items);
+        case.seal_file[100] = 0;
+        script.expect((refusal, 1), &case);
+        case.seal_file.truncate(101);
+        script.expect((refusal, 1), &case);
+        case.seal_file[49] ^= 1;
+        script.expect((21, 0), &case);
+    }
 }
 
-fn of_waiting(script: &mut Script) {
-    script.label("audit: with 16 waiting 18, 19, 20 and 21, the first of them");
-    let unused = Case::unused(script, 1, 1, 17);
-    let mut items: Vec<Wanted> = (1..17).map(|offset| Some((1, offset, 1))).collect();
-    items.push(None);
-    for (last, answer) in [
-        ((1, 17, 4), (18, 16)),
-        ((1, 16, 2), (19, 16)),
-        ((1, 17, 1), (20, 16)),
-        ((1, 0, 1), (21, 16)),
-    ] {
-        items[16] = Some(last);
-        let mut case = unused.with_items(&[20], &items);
-        case.seal_file[849] ^= 1;
-        script.expect(answer, &case);
+/// Item 2 of four begins at byte 100; 5 bytes of phase 1 are covered there.
+fn of_areas_and_places(script: &mut Script) {
+    let case = four_items(script);
+    script.label("audit: 15, 16 and 17 before 19 and 20");
+    for (offset, refusal) in [(4, 19), (6, 20)] {
+        let mut case = case.but(|case| {
+            case.log_lengths[0] = 8;
+            case.seal_file[100] = 4;
+            case.seal_file[100 + 2] = offset;
+            case.seal_file[100 + 14] = 1;
+            let unused = chunk_bytes(&mut case.auditor_store, 1).to_vec();
+            chunk_bytes(&mut case.store, 1).copy_from_slice(&unused);
+        });
+        script.expect((15, 2), &case);
+        case.seal_file[100] = 2;
+        script.expect((16, 2), &case);
+        case.burn(1);
+        script.expect((17, 2), &case);
+        case.seal_file[100 + 14] = 0;
+        script.expect((refusal, 2), &case);
     }
 }
 
@@ -118,4 +145,9 @@ fn of_the_end(script: &mut Script) {
         case.log_lengths[0] = 8;
     });
     script.expect((21, 3), &longer);
+    script.label("audit: 19 and 20 before 22 and 23");
+    for (offset, refusal) in [(4, 19), (6, 20)] {
+        let case = fewer.but(|case| case.seal_file[100 + 2] = offset);
+        script.expect((refusal, 2), &case);
+    }
 }

@@ -1,16 +1,17 @@
-//! Refusals 15, 18 and 21 of the audit.
+//! Refusals 15 and 18 to 21 of the audit.
 
 use pahyndoi::model::Set;
 
 use super::audits::four_items;
 use super::{SETS, one_key, set};
-use crate::script::Script;
 use crate::script::audits::Case;
+use crate::script::{Script, Shape};
 
 pub(super) fn groups(script: &mut Script) {
     ends_inside(script);
     data_lengths(script);
     areas(script);
+    covered_ends(script);
     tags(script);
     tags_of_other_lengths(script);
 }
@@ -55,7 +56,7 @@ fn areas(script: &mut Script) {
         let unused = Case::unused_of(script, one_key(set));
         let (most, capacity) = (set.data_limit, set.log_capacity);
         let begin = capacity - most;
-        let at_the_end = if begin == 0 { (0, 1) } else { (23, 0) };
+        let at_the_end = if begin == 0 { (0, 1) } else { (20, 0) };
         for (offset, length, answer) in [
             (begin + 1, most, (18, 0)),
             (capacity, 1, (18, 0)),
@@ -63,6 +64,21 @@ fn areas(script: &mut Script) {
         ] {
             let case = unused.with_items(&[capacity], &[Some((1, offset, length))]);
             script.expect(answer, &case);
+        }
+    }
+}
+
+/// A byte behind the longest data, where the log has room for it.
+fn covered_ends(script: &mut Script) {
+    for set in SETS {
+        script.label_set(set, "19, 20: around the covered end");
+        let unused = Case::unused_of(script, Shape::own(set, 1, 1, 2, 100));
+        let most = set.data_limit;
+        let length = (most + 2).min(set.log_capacity);
+        for (offset, answer) in [(most - 1, (19, 1)), (most, (23, 0)), (most + 1, (20, 1))] {
+            let items = [Some((1, 0, most)), Some((1, offset, 1))];
+            let answer = if offset < length { answer } else { (18, 1) };
+            script.expect(answer, &unused.with_items(&[length], &items));
         }
     }
 }
