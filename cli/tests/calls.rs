@@ -248,6 +248,27 @@ fn items_of_a_standby_are_rejected() {
     }
 }
 
+/// A state whose log length is one below the length reached, or one above it.
+#[test]
+fn entries_off_the_covered_end_are_rejected() {
+    for (length, number) in [(4, 19), (6, 20)] {
+        for mut device in devices(200) {
+            device.append(1, b"first").expect("a free key");
+            device.state.lengths[0] = length;
+            // Its first byte is the last one of the entry before.
+            device.append(1, b"tenth").expect("a free key");
+            let at_item = Rejected {
+                item: Some(1),
+                ..rejected(number)
+            };
+            assert_eq!(device.audit(), Err(at_item));
+            for offset in [0, 5, length, length + 5] {
+                assert_eq!(device.look_up(1, offset), (Err(at_item), Vec::new()));
+            }
+        }
+    }
+}
+
 #[test]
 fn lookups_name_the_item_and_its_data() {
     for mut device in devices(200) {
