@@ -468,7 +468,7 @@ uint64_t pahyndoi_least_ratchet(const uint32_t *counts, size_t counts_count,
  * looks them up at their first call saves registers kilobytes deeper.
  */
 #define PAHYNDOI_SEALING_STACK 3072
-#define PAHYNDOI_AUDIT_STACK 6656
+#define PAHYNDOI_AUDIT_STACK 3840
 #define PAHYNDOI_HASH_STACK 2048
 
 #ifdef __cplusplus
