@@ -8,7 +8,7 @@ use lib.Dec.{eqb}
 use Rattle.scheme.specs.Rules.{anyTrue, outside}
 use Rattle.scheme.specs.Answers.{refusalNumber}
 use Rattle.scheme.specs.declared.Refusal.{Refusal}
-use Rattle.scheme.specs.declared.Refusal.the-variants.{TooLong, BadStore, BadLogs, BurnedAfterUnburned, BadLengths, StateUnfit, NoSuchPhase, BadDataLength, LogFull, SealFull, KeysSpent, BadAuditorStore, HeadersDiffer, ChunkDiffers, BadItem, ItemNotDue, WrongPlace, BadArea, AreaShared, AreaBeyond, WrongTag, ItemsMissing, NotCovered, NoSuchByte, BadPlan, BadTagLength}
+use Rattle.scheme.specs.declared.Refusal.the-variants.{TooLong, BadStore, BadLogs, BurnedAfterUnburned, BadLengths, StateUnfit, NoSuchPhase, BadDataLength, LogFull, SealFull, KeysSpent, BadAuditorStore, HeadersDiffer, ChunkDiffers, BadItem, ItemNotDue, WrongPlace, BadArea, AreaShared, AreaBeyond, WrongTag, ItemsMissing, NotCovered, NoSuchByte, BadPlan, BadTagLength, BadRestart}
 use Rattle.scheme.proofs.Rules.{in-range}
 
 numbered : (x : Refusal) → outside 1 255 (refusalNumber x) ≡ false
@@ -41,6 +41,7 @@ numbered =
       | NoSuchByte ↦ refl
       | BadPlan ↦ refl
       | BadTagLength ↦ refl
+      | BadRestart ↦ refl
     ]
 
 pub number-bounds : (x : Refusal) → (1 ≤ refusalNumber x) × (refusalNumber x ≤ 255)

@@ -14,10 +14,12 @@ pub mod Items
 pub mod Messages
 pub mod Tags
 pub mod Places
+pub mod Due
 pub mod Areas
 pub mod Runs
 pub mod Refused
 pub mod Acceptance
 pub mod Rising
+pub mod Plain
 pub mod Burning
 pub mod Standby

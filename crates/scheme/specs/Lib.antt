@@ -4,6 +4,7 @@ pub mod Rules
 pub mod Store
 pub mod Fields
 pub mod Items
+pub mod Due
 pub mod Areas
 pub mod Keys
 pub mod Answers
@@ -12,6 +13,7 @@ pub mod Sealer
 pub mod Audit
 pub mod Acceptable
 pub mod Rising
+pub mod Plain
 pub mod Messages
 pub mod Sizes
 pub mod Written
