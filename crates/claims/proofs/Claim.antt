@@ -24,12 +24,12 @@ untouched-is : (f : Fed) → Starts f → (calls : List Call) → HistoryFrom f 
     → untouched f calls ≡ said
 untouched-is f starts calls history said e =
     let k = kept f starts calls history in
-    rw (k .store, k .logs, k .seal, file-front f (accountFrom f (started f) calls) (good f starts calls)) e
+    rw (k .store, k .logs, k .seal, file-front f (accountFrom f (started f) calls) (good f starts calls history)) e
 
 pub claim : (f : Fed) → Starts f → (calls : List Call) → HistoryFrom f (started f) calls → Claim f calls
 claim f starts calls history =
     let a = accountFrom f (started f) calls in
-    let g = good f starts calls in
+    let g = good f starts calls history in
     record {
       kept = kept f starts calls history;
       compromise = λ device logs lengths seal accepted. compromise f a g device logs lengths seal (omega arith);
@@ -38,4 +38,4 @@ claim f starts calls history =
 
 pub half-way : (f : Fed) → Starts f → (calls : List Call) → HistoryFrom f (started f) calls → HalfWay f calls
 half-way f starts calls history some =
-    untouched-is f starts calls history _ (left-half-way f (accountFrom f (started f) calls) starts (good f starts calls) some)
+    untouched-is f starts calls history _ (left-half-way f (accountFrom f (started f) calls) starts (good f starts calls history) some)

@@ -1,16 +1,16 @@
 -- What holds of every account: the invariant that the parts of the claim share.
 use mathlib.Core.Path.{_≡_}
-use mathlib.Core.Bool.{true}
-use mathlib.Core.Logic.{_⊎_}
+use mathlib.Core.Bool.{true, cond}
 use mathlib.Core.List.{List, []}
-use Prim.Native.Nat.{ℕ, _+_, _-_, _*_, _≤_, _<_}
-use lib.Dec.{ltb}
-use lib.ListN.{length, getD}
+use Prim.Native.Nat.{ℕ, suc, _-_, _≤_, _<_}
+use lib.Dec.{eqb, ltb}
+use lib.ListN.{length, getD, take}
 use Rattle.scheme.specs.Store.{entryKind, dataLimit, logCapacity, phases, chunkCount, ratchet}
-use Rattle.scheme.specs.Items.{chunkOf, offsetOf, kindOf, phaseOf, dataLength, chunkField, offsetField, itemTag, messageOf}
-use Rattle.scheme.specs.Keys.{keyAt, tagOf}
+use Rattle.scheme.specs.Items.{kindOf, phaseOf, dataLength, itemTag, messageOf}
+use Rattle.scheme.specs.Due.{KeyPlace, keyPlace, dueBehind}
+use Rattle.scheme.specs.Keys.{keyOf, tagOf}
 use Rattle.scheme.specs.Areas.{areaOf, areaEnd, areasIn, Runs}
-use Rattle.scheme.specs.Acceptable.{EntryOf, FillerOf}
+use Rattle.scheme.specs.Acceptable.{ItemOf, Stands}
 use Rattle.claims.specs.Account.{Fed, Account, logOf, carried, sealReached}
 use Rattle.claims.specs.Claim.{placed}
 
@@ -38,22 +38,38 @@ pub record InLog (f : Fed) (logs : List (List ℕ)) (it : List ℕ) : Type 0 whe
   pub few : dataLength it ≤ dataLimit (f .store)
   pub inside : areaEnd (areaOf it) ≤ length (logIn logs (phaseOf it))
 
--- item k is whole, stands in its place, and has the tag of its message under its key
-pub record ItemAt (f : Fed) (logs : List (List ℕ)) (k : ℕ) (it : List ℕ) : Type 0 where
-  pub form : EntryOf (f .store) it ⊎ FillerOf (f .store) it
+-- an item behind others is whole, stands where a key is due, and has the tag of its message under its key
+pub record ItemAt (f : Fed) (logs : List (List ℕ)) (taken : List (List ℕ)) (it : List ℕ) : Type 0 where
+  pub form : ItemOf (f .store) it
   pub ranges : kindOf it ≡ entryKind → InLog f logs it
-  pub chunk : chunkField it ≡ chunkOf (ratchet (f .store)) k
-  pub offset : offsetField it ≡ offsetOf (ratchet (f .store)) k
-  pub tag : itemTag it
-      ≡ tagOf (f .store) (keyAt (f .store) (chunkOf (ratchet (f .store)) k) (offsetOf (ratchet (f .store)) k)) (messageOf (f .store) (memoryWith f logs) it)
+  pub place : Stands (dueBehind (ratchet (f .store)) taken) it
+  pub tag : itemTag it ≡ tagOf (f .store) (keyOf (f .store) it) (messageOf (f .store) (memoryWith f logs) it)
+
+-- how many chunks are burned
+abbrev pub front : Account → ℕ
+front a = cond (eqb (a .r .0) 0) (a .c .0) (suc (a .c .0))
+
+-- the place of the counters; what is due behind the items is there, or in the chunk before where that waits for its restart
+abbrev pub counters : Account → KeyPlace
+counters a = record { chunk = a .c; offset = a .r }
+
+abbrev pub placeDue : Account → KeyPlace
+placeDue a = cond (eqb (a .waiting) 0) (counters a) (keyPlace (a .c .0 - 1) (a .waiting))
+
+-- while a chunk waits, the counters stand at the first key of the chunk after it
+pub record Waits (f : Fed) (a : Account) : Type 0 where
+  pub whole : a .r .0 ≡ 0
+  pub few : a .waiting < ratchet (f .store)
+  pub later : 1 ≤ a .c .0
 
 pub record Good (f : Fed) (a : Account) : Type 0 where
   pub offset : a .r .0 < ratchet (f .store)
-  pub number : length (a .items) ≡ a .c .0 * ratchet (f .store) + a .r .0
-  pub spent : length (a .items) ≤ chunkCount (f .store) * ratchet (f .store)
+  pub due : dueBehind (ratchet (f .store)) (a .items) ≡ placeDue a
+  pub waits : 0 < a .waiting → Waits f a
+  pub spent : front a ≤ chunkCount (f .store)
   pub sealed : sealReached a ≤ length (f .seal)
   pub logs : Logs f (a .logs)
-  pub items : (k : ℕ) → k < length (a .items) → ItemAt f (a .logs) k (itemOf a k)
-  pub burned : (x : ℕ) → carried a x ≡ ltb (x * ratchet (f .store)) (length (a .items))
+  pub items : (k : ℕ) → k < length (a .items) → ItemAt f (a .logs) (take k (a .items)) (itemOf a k)
+  pub burned : (x : ℕ) → carried a x ≡ ltb x (front a)
   pub runs : (p : ℕ) → 1 ≤ p → p ≤ phases (f .store) → Runs 0 (areasIn p (a .items)) (length (logOf a p))
   pub standing : a .lost ≡ true → 0 < length (a .items)

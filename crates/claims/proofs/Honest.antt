@@ -1,26 +1,32 @@
 -- What a history left, untouched, fits the audit's rules up to the end of the items (`left-fitting`): the audit accepts it where no chunk
 -- is half used (`honest`), and misses the items of a half-used one (`half-way`).
-use mathlib.Core.Path.{_≡_, refl, _∙_, ap}
+use mathlib.Core.Path.{_≡_, refl, sym, _∙_, ap}
+use mathlib.Core.Logic.{inl, inr}
 use mathlib.Core.List.{List}
-use Prim.Native.Nat.{ℕ, _-_, _*_, _≤_, _<_}
-use native.Mathlib.Nat.{le-refl, suc-mul}
+use Prim.Native.Nat.{ℕ, _-_, _≤_, _<_}
+use native.Mathlib.Nat.{le-refl}
 use native.Mathlib.Omega.{arith}
 use lib.ListN.{length, take}
+use borrow.Author.Tests.{eq-eqb, ne-eqb}
 use Rattle.scheme.specs.Store.{entryKind, phases, ratchet, chunk, burnedFront}
-use Rattle.scheme.specs.Items.{kindOf, phaseOf}
+use Rattle.scheme.specs.Items.{ratchetOffset, kindOf, phaseOf}
+use Rattle.scheme.specs.Due.{KeyPlace, keyPlace, dueBehind}
 use Rattle.scheme.specs.Areas.{areaOf, areaEnd, areasIn, covered, lengthIn}
 use Rattle.scheme.specs.Audit.{audit}
 use Rattle.scheme.proofs.Acceptance.{Fitting, fitting-accepted, fitting-missing}
 use Rattle.scheme.proofs.Acceptance.MaterialRules.{Material, front-is}
-use Rattle.scheme.proofs.Headers.{same-message, same-entry-length, same-filler-length}
+use Rattle.scheme.proofs.Due.{same-place}
+use Rattle.scheme.proofs.Headers.{same-message, same-entry-length, same-filler-length, same-restart-length}
 use Rattle.scheme.proofs.Tags.{same-tag}
 use Rattle.scheme.proofs.Burning.{zeroed-later, zeroed-burned}
 use Rattle.scheme.proofs.Runs.{run-covered, run-begins}
-use Rattle.claims.specs.Account.{Fed, Account, logOf, lengthsReached}
+use Rattle.claims.specs.Account.{Fed, Account, logOf, lengthsReached, NoneHalfUsed, HalfUsed}
 use Rattle.claims.specs.Claim.{Starts, storeLeft, logsLeft, sealFile}
-use Rattle.claims.proofs.Good.{Good, itemOf, InLog}
+use Rattle.claims.proofs.Good.{Good, itemOf, InLog, front, counters, placeDue}
+use Rattle.claims.proofs.Steps.Adding.{half-free}
 use Rattle.claims.proofs.Steps.Begun.{begun}
-use Rattle.claims.proofs.Steps.StoreLeft.{front, front-whole, front-half, front-keys, front-at-most, store-left}
+use Rattle.claims.proofs.Steps.Fits.{item-burned}
+use Rattle.claims.proofs.Steps.StoreLeft.{front-whole, store-left}
 use Rattle.claims.proofs.Steps.Device.{lengths-at, lengths-length, left-header, left-fields, left-store, left-logs}
 
 module _ (f : Fed) (a : Account) (good : Good f a) where
@@ -49,7 +55,7 @@ module _ (f : Fed) (a : Account) (starts : Starts f) (good : Good f a) where
       let st = f .store in
       let b = begun f starts in
       let fields = left-fields f b a good in
-      let most = front-at-most f a good (b .store) in
+      let most = good .spent in
       let zeros = store-left f a good (b .store) in
       record {
         deviceStore = left-store f b a good;
@@ -64,10 +70,12 @@ module _ (f : Fed) (a : Account) (starts : Starts f) (good : Good f a) where
         kept = λ x low high. ap (λ (l : List ℕ). chunk l x) zeros ∙ zeroed-later st (b .store) (front a) most x low;
       }
 
-  -- the burned chunks' keys
-  keys-left : burnedFront (storeLeft f a) * ratchet (storeLeft f a) ≡ front a * ratchet (f .store)
-  keys-left =
-      rw (front-is (storeLeft f a) (f .store) (logsLeft f a) (lengthsReached a) (front a) left-material, left-fields f (begun f starts) a good .ratchet)
+  -- the first chunk that is not burned, and what is due
+  front-left : burnedFront (storeLeft f a) ≡ front a
+  front-left = front-is (storeLeft f a) (f .store) (logsLeft f a) (lengthsReached a) (front a) left-material
+
+  due-left : dueBehind (ratchet (storeLeft f a)) (a .items) ≡ placeDue a
+  due-left = rw (left-fields f (begun f starts) a good .ratchet) (good .due)
 
   -- what is left fits, half way through a chunk or not
   left-fitting : Fitting (storeLeft f a) (f .store) (logsLeft f a) (lengthsReached a) (sealFile a) (front a) (a .items)
@@ -80,29 +88,35 @@ module _ (f : Fed) (a : Account) (starts : Starts f) (good : Good f a) where
         material = left-material;
         file = refl;
         each = λ k h. record {
-          form = rw (same-entry-length left st fields, same-filler-length left st fields) (good .items k h .form);
-          due = rw keys-left (omega (arith, front-keys f a good (b .store)));
-          place = rw (fields .ratchet) (good .items k h .chunk, good .items k h .offset);
+          form = rw (same-entry-length left st fields, same-filler-length left st fields, same-restart-length left st fields) (good .items k h .form);
+          due = rw front-left (item-burned f a good k h);
+          place = rw (fields .ratchet) (good .items k h .place);
           ranges = λ kind.
               let e = entry f a good k h kind in
               (e .low, rw (fields .phases) (e .high), e .some, rw (fields .dataLimit) (e .few), inside f a good k h kind);
           begins = begins f a good k h;
-          tag = rw (fields .ratchet, same-tag left st fields, same-message left st fields) (good .items k h .tag);
+          tag = rw (same-tag left st fields, same-message left st fields) (good .items k h .tag);
         };
       }
 
-  pub honest : a .r .0 ≡ 0
+  pub honest : NoneHalfUsed a
       → audit (storeLeft f a) (f .store) (logsLeft f a) (lengthsReached a) (sealFile a) ≡ record { refusal = 0; number = length (a .items) }
-  honest whole =
+  honest (whole, free) =
       let phases-left = left-fields f (begun f starts) a good .phases in
+      let first : counters a ≡ keyPlace (a .c .0) 0 = same-place refl (ap ratchetOffset whole) in
       fitting-accepted (storeLeft f a) (f .store) (logsLeft f a) (lengthsReached a) (sealFile a) (front a) (a .items) left-fitting
       (record {
-        enough = rw (keys-left, front-whole a whole) (omega (arith, good .number));
+        last = due-left ∙ rw (eq-eqb (a .waiting) 0 free, front-left, front-whole a whole) first;
         whole = λ p low high. full f a good p low (rw phases-left at high);
       })
 
-  pub half-way : 0 < a .r .0
+  -- the key due has an offset above 0
+  half-due : HalfUsed a → 0 < placeDue a .offset .0
+  half-due (inl inner) = rw (eq-eqb (a .waiting) 0 (half-free f a good inner)) inner
+  half-due (inr some) = rw (ne-eqb (a .waiting) 0 (λ z. omega arith)) some
+
+  pub half-way : HalfUsed a
       → audit (storeLeft f a) (f .store) (logsLeft f a) (lengthsReached a) (sealFile a) ≡ record { refusal = 22; number = 0 }
-  half-way some =
+  half-way half =
       fitting-missing (storeLeft f a) (f .store) (logsLeft f a) (lengthsReached a) (sealFile a) (front a) (a .items) left-fitting
-      (rw (keys-left, front-half a some, suc-mul) (omega (arith, good .number, good .offset)))
+      (λ there. omega (arith, half-due half, ap (λ (p : KeyPlace). p .offset .0) (sym due-left ∙ there)))

@@ -1,46 +1,57 @@
--- Every account is good: calls that are refused change no item, and the others add items one by one.
-use mathlib.Core.Path.{_≡_, refl, sym, _∙_}
+-- The account of every history is good: calls that are refused change no item, and the others add items one by one.
+use mathlib.Core.Path.{_≡_, refl, sym, ap, _∙_}
 use mathlib.Core.Bool.{Bool, true, false, _||_, cond, true≢false}
 use mathlib.Core.Logic.{by-cases}
 use mathlib.Core.List.{List, [], _∷_}
 use Prim.Native.Nat.{ℕ, zero, suc, _+_, _-_, _*_, _≤_, _<_}
-use native.Mathlib.Nat.{zero-mul}
 use native.Mathlib.Decide.{decLt}
 use native.Mathlib.Omega.{arith}
 use lib.Dec.{eqb, ltb}
 use lib.ListN.{length, getD, replicate, length-replicate}
-use borrow.Author.Tests.{eqb-true, eq-eqb, ltb-true, ltb-false, le-ltb}
+use borrow.Author.Tests.{eqb-true, eq-eqb, ne-eqb, ltb-true, ltb-false, le-ltb}
+use Rattle.scheme.specs.Rules.{allTrue}
 use Rattle.scheme.specs.Store.{dataLimit, logCapacity, phases, chunkCount, ratchet}
-use Rattle.scheme.specs.Items.{entryLength, fillerLength}
+use Rattle.scheme.specs.Items.{chunkNumber, entryLength, fillerLength, restartLength}
+use Rattle.scheme.specs.Due.{dueFrom}
 use Rattle.scheme.specs.Areas.{areasIn, none}
 use Rattle.scheme.specs.Bytes.{joined}
-use Rattle.scheme.proofs.Rules.{both-true, in-range, passed}
-use Rattle.claims.specs.Account.{Fed, Account, Call, Open, Append, Close, started, logOf, carriedBy, sealReached, withLost, entryDue, accountAppend, afterClose, accountAppendRules, accountCloseRules, accountRefusal, accountDone, accountRefused, accountStep, accountFrom}
+use Rattle.scheme.proofs.Tests.{not-differ}
+use Rattle.scheme.proofs.Rules.{none-true, both-true, in-range, passed}
+use Rattle.scheme.proofs.Due.{same-place}
+use Rattle.claims.specs.Account.{Fed, Account, Call, Open, Append, Close, Restart, Cut, started, logOf, carriedBy, sealReached, withLost, losing, entryDue, restartDue, accountAppend, accountRestart, afterClose, afterCut, accountAppendRules, accountCloseRules, accountRestartRules, accountRefusal, accountDone, accountRefused, accountStep, accountFrom, Allowed, HistoryFrom}
 use Rattle.claims.specs.Claim.{Starts}
 use Rattle.claims.proofs.Good.{Good}
 use Rattle.claims.proofs.Steps.Begun.{Begun, begun}
-use Rattle.claims.proofs.Steps.Adding.{adds-good}
+use Rattle.claims.proofs.Steps.Adding.{due-counters, half-free, adds-good}
 use Rattle.claims.proofs.Steps.Entries.{Appends, entry-adds, logsWith}
 use Rattle.claims.proofs.Steps.Fillers.{left, after-close, close-sealed, fill-good}
-use Rattle.claims.proofs.Steps.StoreLeft.{chunk-at-most, chunk-below}
+use Rattle.claims.proofs.Steps.Restarts.{Restarts, restart-adds}
+use Rattle.claims.proofs.Steps.StoreLeft.{front-half, chunk-at-most, chunk-below}
 
 empty-log : (n p : ℕ) → length (getD (replicate {A = List ℕ} n []) p []) ≡ 0
 empty-log zero p = refl
 empty-log (suc n) zero = refl
 empty-log (suc n) (suc p) = empty-log n p
 
+-- the account after a cut of a half-used chunk
+abbrev pub cutHalf : Account → Account
+cutHalf a =
+    let b = losing a in
+    record { c = record { 0 = suc (a .c .0) }; r = record { 0 = 0 }; items = b .items; logs = b .logs; lost = b .lost; waiting = a .r .0 }
+
 module _ (f : Fed) (begun : Begun f) where
   pub started-good : Good f (started f)
-  unfolding started joined carriedBy areasIn
+  unfolding started joined carriedBy areasIn dueFrom
   started-good =
       record {
-        offset = omega arith;
-        number = sym (rw zero-mul refl);
+        offset = omega (arith, begun .store .ratchetLow);
+        due = refl;
+        waits = λ some. absurd (omega arith);
         spent = omega arith;
         sealed = omega arith;
         logs = record { count = length-replicate (phases (f .store)) []; sizes = λ i. omega (arith, empty-log (phases (f .store)) i) };
         items = λ k h. absurd (omega arith);
-        burned = λ x. sym (le-ltb (x * ratchet (f .store)) 0 (omega arith));
+        burned = λ x. sym (le-ltb x 0 (omega arith));
         runs = λ p low high. rw empty-log none;
         standing = λ e. absurd (true≢false (sym e));
       }
@@ -49,7 +60,8 @@ module _ (f : Fed) (begun : Begun f) where
   lost-good a good lost standing =
       record {
         offset = good .offset;
-        number = good .number;
+        due = good .due;
+        waits = λ some. let w = good .waits some in record { whole = w .whole; few = w .few; later = w .later };
         spent = good .spent;
         sealed = good .sealed;
         logs = good .logs;
@@ -59,7 +71,19 @@ module _ (f : Fed) (begun : Begun f) where
         standing = standing;
       }
 
-  -- what an append that is not refused has found
+  -- 11 does not hold: a chunk is left
+  left-room : (a : Account) → Good f a → allTrue (eqb (a .r .0) 0 ∷ eqb (a .c .0) (chunkCount (f .store)) ∷ []) ≡ false → a .c .0 < chunkCount (f .store)
+  left-room a good unspent =
+      by-cases (decLt (a .c .0) (chunkCount (f .store))) (λ below. below)
+      (λ over. absurd (true≢false (sym (both-true (eqb (a .r .0) 0) (eqb (a .c .0) (chunkCount (f .store))) .1 (spent over)) ∙ unspent)))
+    where
+      spent : (a .c .0 < chunkCount (f .store) → ⊥) → (eqb (a .r .0) 0 ≡ true) × (eqb (a .c .0) (chunkCount (f .store)) ≡ true)
+      spent over = (
+        by-cases (decLt 0 (a .r .0)) (λ inner. absurd (over (chunk-below f a good (begun .store) inner))) (λ outer. eq-eqb (a .r .0) 0 (omega arith)),
+        eq-eqb (a .c .0) (chunkCount (f .store)) (omega (arith, chunk-at-most f a good (begun .store))),
+      )
+
+  -- what an append that is not refused has found, and a restart
   pub append-asks : (a : Account) → Good f a → (phase : ℕ) (bytes : List ℕ) → accountRefusal f a (Append phase bytes) ≡ 0 → Appends f a phase bytes
   unfolding accountRefusal accountAppendRules
   append-asks a good phase bytes e =
@@ -74,16 +98,22 @@ module _ (f : Fed) (begun : Begun f) where
         some = size-in .0;
         few = size-in .1;
         fits = omega (arith, good .logs .sizes (phase - 1));
-        sealed = omega arith;
-        room = by-cases (decLt (a .c .0) (chunkCount (f .store))) (λ below. below)
-            (λ over. absurd (true≢false (sym (both-true (eqb (a .r .0) 0) (eqb (a .c .0) (chunkCount (f .store))) .1 (spent over)) ∙ test 11)));
+        sealed = omega (arith, good .sealed);
+        room = left-room a good (test 11);
       }
-    where
-      spent : (a .c .0 < chunkCount (f .store) → ⊥) → (eqb (a .r .0) 0 ≡ true) × (eqb (a .c .0) (chunkCount (f .store)) ≡ true)
-      spent over = (
-        by-cases (decLt 0 (a .r .0)) (λ inner. absurd (over (chunk-below f a good (begun .store) inner))) (λ outer. eq-eqb (a .r .0) 0 (omega arith)),
-        eq-eqb (a .c .0) (chunkCount (f .store)) (omega (arith, chunk-at-most f a good (begun .store))),
-      )
+
+  pub restart-asks : (a : Account) → Good f a → (number : ℕ) → accountRefusal f a (Restart number) ≡ 0 → Restarts f a number
+  unfolding accountRefusal accountRestartRules
+  restart-asks a good number e =
+      let test = passed (accountRestartRules f a number) refl e in
+      let own = none-true _ .0 (test 27) in
+      let seal-free = ltb-false (length (f .seal) - sealReached a) (restartLength (f .store)) (test 10) in
+      record {
+        few = in-range 1 (ratchet (f .store) - 1) number .0 (own .0) .1;
+        first = not-differ (a .r .0) 0 .0 (own .1 .0);
+        sealed = omega (arith, good .sealed);
+        room = left-room a good (test 11);
+      }
 
   pub close-fits : (a : Account) → Good f a → accountRefusal f a Close ≡ 0 → sealReached a + left f a * fillerLength (f .store) ≤ length (f .seal)
   unfolding accountRefusal accountCloseRules
@@ -92,37 +122,67 @@ module _ (f : Fed) (begun : Begun f) where
       let free = ltb-false (length (f .seal) - sealReached a) (sealReached (afterClose f a) - sealReached a) (test 10) in
       omega (arith, close-sealed f begun a (good .offset))
 
-  pub done-good : (a : Account) (call : Call) → Good f a → accountRefusal f a call ≡ 0 → Good f (accountDone f a call)
-  unfolding accountDone accountAppend
-  done-good a (Open lengths sealLength) good e = lost-good a good false (λ never. absurd (true≢false (sym never)))
-  done-good a (Append phase bytes) good e =
-      adds-good f (begun .store) a good (entryDue f a phase bytes) (logsWith a phase bytes)
-      (entry-adds f begun a good phase bytes (append-asks a good phase bytes e))
-  done-good a Close good e =
-      rw (after-close f a (good .offset)) (fill-good f begun (left f a) a good refl (close-fits a good e))
-
-  pub refused-good : (a : Account) (call : Call) → Good f a → Good f (accountRefused a call)
-  unfolding accountRefused
-  refused-good a (Open lengths sealLength) good = lost-good a good (a .lost || ltb 0 (length (a .items))) (go (a .lost) (good .standing))
+  pub losing-good : (a : Account) → Good f a → Good f (losing a)
+  losing-good a good = lost-good a good (a .lost || ltb 0 (length (a .items))) (go (a .lost) (good .standing))
     where
       go : (t : Bool) → (t ≡ true → 0 < length (a .items)) → (t || ltb 0 (length (a .items))) ≡ true → 0 < length (a .items)
       go true standing e = standing refl
       go false standing e = ltb-true 0 (length (a .items)) e
+
+  -- what was due there waits
+  pub cut-good : (a : Account) → Good f a → 0 < a .r .0 → Good f (cutHalf a)
+  cut-good a good inner =
+      let before : a .c .0 ≡ suc (a .c .0) - 1 = omega arith in
+      record {
+        offset = omega (arith, good .offset);
+        due = due-counters f a good (half-free f a good inner) ∙ rw (ne-eqb (a .r .0) 0 (λ z. omega arith)) (same-place (ap chunkNumber before) refl);
+        waits = λ some. record { whole = refl; few = good .offset; later = omega arith };
+        spent = omega (arith, good .spent, front-half a inner);
+        sealed = good .sealed;
+        logs = good .logs;
+        items = good .items;
+        burned = λ x. good .burned x ∙ ap (ltb x) (front-half a inner);
+        runs = good .runs;
+        standing = losing-good a good .standing;
+      }
+
+  pub done-good : (a : Account) (call : Call) → Good f a → Allowed f a call → accountRefusal f a call ≡ 0 → Good f (accountDone f a call)
+  unfolding accountDone accountAppend accountRestart afterCut Allowed
+  done-good a (Open lengths sealLength) good allowed e = lost-good a good false (λ never. absurd (true≢false (sym never)))
+  done-good a (Append phase bytes) good allowed e =
+      adds-good f a good (entryDue f a phase bytes) (logsWith a phase bytes)
+      (entry-adds f begun a good (allowed e) phase bytes (append-asks a good phase bytes e))
+  done-good a Close good allowed e =
+      rw (after-close f a (good .offset)) (fill-good f begun (left f a) a good refl (close-fits a good e))
+  done-good a (Restart number) good allowed e =
+      adds-good f a good (restartDue f a number) (a .logs)
+      (restart-adds f begun a good number (restart-asks a good number e) (allowed e .0) (allowed e .1))
+  done-good a Cut good allowed e = go (ltb 0 (a .r .0)) refl
+    where
+      go : (t : Bool) → ltb 0 (a .r .0) ≡ t → Good f (cond t (cutHalf a) (losing a))
+      go true test = cut-good a good (ltb-true 0 (a .r .0) test)
+      go false test = losing-good a good
+
+  pub refused-good : (a : Account) (call : Call) → Good f a → Good f (accountRefused a call)
+  unfolding accountRefused
+  refused-good a (Open lengths sealLength) good = losing-good a good
   refused-good a (Append phase bytes) good = good
   refused-good a Close good = good
+  refused-good a (Restart number) good = good
+  refused-good a Cut good = good
 
-  pub step-good : (a : Account) (call : Call) → Good f a → Good f (accountStep f a call)
+  pub step-good : (a : Account) (call : Call) → Good f a → Allowed f a call → Good f (accountStep f a call)
   unfolding accountStep
-  step-good a call good = go (eqb (accountRefusal f a call) 0) refl
+  step-good a call good allowed = go (eqb (accountRefusal f a call) 0) refl
     where
       go : (t : Bool) → eqb (accountRefusal f a call) 0 ≡ t → Good f (cond t (accountDone f a call) (accountRefused a call))
-      go true e = done-good a call good (eqb-true (accountRefusal f a call) 0 e)
+      go true e = done-good a call good allowed (eqb-true (accountRefusal f a call) 0 e)
       go false e = refused-good a call good
 
-  pub from-good : (a : Account) (calls : List Call) → Good f a → Good f (accountFrom f a calls)
-  unfolding accountFrom
-  from-good a [] good = good
-  from-good a (call ∷ calls) good = from-good (accountStep f a call) calls (step-good a call good)
+  pub from-good : (a : Account) (calls : List Call) → Good f a → HistoryFrom f a calls → Good f (accountFrom f a calls)
+  unfolding accountFrom HistoryFrom
+  from-good a [] good history = good
+  from-good a (call ∷ calls) good history = from-good (accountStep f a call) calls (step-good a call good (history .0)) (history .1)
 
-pub good : (f : Fed) → Starts f → (calls : List Call) → Good f (accountFrom f (started f) calls)
-good f starts calls = from-good f (begun f starts) (started f) calls (started-good f (begun f starts))
+pub good : (f : Fed) → Starts f → (calls : List Call) → HistoryFrom f (started f) calls → Good f (accountFrom f (started f) calls)
+good f starts calls history = from-good f (begun f starts) (started f) calls (started-good f (begun f starts)) history

@@ -7,7 +7,7 @@ use Rattle.scheme.specs.Bytes.{splice, joined}
 use Rattle.scheme.specs.Store.{phases, logPlace}
 use Rattle.scheme.proofs.Splice.{splice-none}
 use Rattle.scheme.proofs.Burning.{zeroed}
-use Rattle.claims.specs.Account.{Call, Open, Append, Close, Answer, Fed, Account, started, accountStep, accountAnswer, accountFrom, answersFrom, Allowed, HistoryFrom}
+use Rattle.claims.specs.Account.{Call, Open, Append, Close, Restart, Cut, Answer, Fed, Account, started, accountStep, accountAnswer, accountFrom, answersFrom, Allowed, HistoryFrom}
 use Rattle.claims.specs.Run.{Device, deviceStarted, effectOf, runFrom, runAnswers}
 use Rattle.claims.specs.Claim.{Starts, Kept, placed}
 use Rattle.claims.proofs.Good.{Good}
@@ -15,9 +15,11 @@ use Rattle.claims.proofs.Steps.Agrees.{Agrees, same-device}
 use Rattle.claims.proofs.Steps.Appending.{append-agrees}
 use Rattle.claims.proofs.Steps.Begun.{Begun, begun}
 use Rattle.claims.proofs.Steps.Closing.{close-agrees}
+use Rattle.claims.proofs.Steps.Cutting.{cut-agrees}
 use Rattle.claims.proofs.Steps.Device.{deviceOf}
 use Rattle.claims.proofs.Invariant.{started-good, step-good}
 use Rattle.claims.proofs.Steps.Opening.{open-agrees, empty-held}
+use Rattle.claims.proofs.Steps.Restarting.{restart-agrees}
 use Rattle.claims.proofs.Steps.StoreLeft.{store-left}
 
 -- ---- the start
@@ -43,8 +45,10 @@ module _ (f : Fed) (begun : Begun f) where
   call-agrees : (a : Account) → Good f a → (call : Call) → Allowed f a call → Agrees f a call (effectOf (deviceOf f a) call)
   unfolding effectOf
   call-agrees a good (Open lengths sealLength) allowed = open-agrees f begun a good lengths sealLength allowed
-  call-agrees a good (Append phase bytes) allowed = append-agrees f begun a good phase bytes
+  call-agrees a good (Append phase bytes) allowed = append-agrees f begun a good phase bytes allowed
   call-agrees a good Close allowed = close-agrees f begun a good
+  call-agrees a good (Restart number) allowed = restart-agrees f begun a good number allowed
+  call-agrees a good Cut allowed = cut-agrees f begun a good
 
   pub run-answers : (calls : List Call) (a : Account) → Good f a → HistoryFrom f a calls → runAnswers (deviceOf f a) calls ≡ answersFrom f a calls
   unfolding runAnswers answersFrom HistoryFrom
@@ -53,14 +57,14 @@ module _ (f : Fed) (begun : Begun f) where
       let agrees = call-agrees a good call (history .0) in
       ap₂ (λ (answer : Answer) (d : Device). answer ∷ runAnswers d calls) (agrees .answer) (agrees .device)
       ∙ ap (λ (answers : List Answer). accountAnswer f a call ∷ answers)
-      (run-answers calls (accountStep f a call) (step-good f begun a call good) (history .1))
+      (run-answers calls (accountStep f a call) (step-good f begun a call good (history .0)) (history .1))
 
   pub run-leaves : (calls : List Call) (a : Account) → Good f a → HistoryFrom f a calls → runFrom (deviceOf f a) calls ≡ deviceOf f (accountFrom f a calls)
   unfolding runFrom accountFrom HistoryFrom
   run-leaves [] a good history = refl
   run-leaves (call ∷ calls) a good history =
       ap (λ (d : Device). runFrom d calls) (call-agrees a good call (history .0) .device)
-      ∙ run-leaves calls (accountStep f a call) (step-good f begun a call good) (history .1)
+      ∙ run-leaves calls (accountStep f a call) (step-good f begun a call good (history .0)) (history .1)
 
 pub kept : (f : Fed) → Starts f → (calls : List Call) → HistoryFrom f (started f) calls → Kept f calls
 kept f starts calls history =

@@ -8,6 +8,7 @@ pub mod Honest
 pub mod Claim
 pub mod Standby
 pub mod Sets
+pub mod Uncut
 pub mod Plan
 pub mod Foretold
 pub mod Rows

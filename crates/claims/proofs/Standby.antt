@@ -1,19 +1,21 @@
 -- An item of the controller's that is accepted for a store equal to the controller's but for the id has one tag for two messages.
 use mathlib.Core.Path.{_≡_, sym, ap, _∙_}
 use mathlib.Core.List.{List, []}
-use Prim.Native.Nat.{ℕ, _<_}
+use Prim.Native.Nat.{ℕ, suc, _<_}
 use native.Mathlib.Omega.{arith}
 use lib.ListN.{length, getD}
 use Rattle.scheme.specs.Store.{ratchet}
-use Rattle.scheme.specs.Items.{chunkOf, offsetOf, chunkField, offsetField, pieces}
+use Rattle.scheme.specs.Items.{chunkOf, offsetOf, pieces}
+use Rattle.scheme.specs.Due.{KeyPlace, ownPlace}
 use Rattle.scheme.specs.Audit.{audit}
-use Rattle.scheme.specs.Acceptable.{Acceptable}
+use Rattle.scheme.specs.Acceptable.{Acceptable, NoRestart}
 use Rattle.scheme.specs.Standby.{ButIds, OneTag}
 use Rattle.scheme.proofs.Headers.{same-fields}
 use Rattle.scheme.proofs.Places.{one-number}
+use Rattle.scheme.proofs.Due.{own-numbered}
 use Rattle.scheme.proofs.Acceptance.{accepts, acceptable-pieces}
-use Rattle.scheme.proofs.Standby.{same-ratchet, tag-stands, accepted-twice}
-use Rattle.claims.specs.Account.{Call, Fed, Account, started, accountFrom}
+use Rattle.scheme.proofs.Standby.{same-ratchet, accepted-twice}
+use Rattle.claims.specs.Account.{Call, Fed, Account, started, accountFrom, HistoryFrom}
 use Rattle.claims.specs.Claim.{Starts, logsLeft}
 use Rattle.claims.specs.Standby.{Standby}
 use Rattle.claims.proofs.Good.{Good, itemOf}
@@ -35,24 +37,28 @@ module _ (f : Fed) (starts : Starts f) (a : Account) (g : Good f a) (other devic
   same-keys : ratchet device ≡ ratchet (f .store)
   same-keys = same-fields device other (ok .headers) .ratchet ∙ sym (same-ratchet (f .store) other but)
 
-  one-place : j ≡ k
-  one-place =
-      let it = g .items k below in
-      let place = ok .place j counted in
-      one-number (ratchet (f .store)) j k
-      (ap (λ n. chunkOf n j) (sym same-keys) ∙ sym (place .0) ∙ ap chunkField there ∙ it .chunk)
-      (ap (λ n. offsetOf n j) (sym same-keys) ∙ sym (place .1) ∙ ap offsetField there ∙ it .offset)
+  one-place : NoRestart (suc k) (a .items) → NoRestart (suc j) (pieces device seal) → j ≡ k
+  one-place plain plain′ =
+      let n = ratchet (f .store) in
+      let mine : ownPlace (itemOf a k) ≡ record { chunk = chunkOf n k; offset = offsetOf n k }
+      = own-numbered n (begun f starts .store .ratchetLow) (a .items) (suc k) below (λ i h. g .items i (omega (arith, below)) .place) plain k (omega arith) in
+      let theirs : ownPlace (itemOf a k) ≡ record { chunk = chunkOf n j; offset = offsetOf n j }
+      = rw there at (own-numbered n (begun f starts .store .ratchetLow) (ok .items) (suc j) (omega (arith, counted, ok .count))
+      (λ i h. rw same-keys at (ok .place i (omega (arith, counted)))) (rw cut-so at plain′) j (omega arith)) in
+      one-number n j k
+      (ap (λ (p : KeyPlace). p .chunk) (sym theirs ∙ mine))
+      (ap (λ (p : KeyPlace). p .offset) (sym theirs ∙ mine))
 
   one-tag : OneTag (f .store) other (logsLeft f a) logs (itemOf a k)
   one-tag =
       let it = g .items k below in
       accepted-twice (f .store) other (logsLeft f a) (itemOf a k) device logs lengths seal n j (begun f starts .store) but
-      (tag-stands (f .store) (logsLeft f a) (itemOf a k) _ _ (it .chunk) (it .offset) (it .tag)) ok counted there
+      (it .tag) ok counted there
 
-pub standby : (f : Fed) → Starts f → (calls : List Call) → Standby f calls
-standby f starts calls other device logs lengths seal k j but accepted below inside here =
+pub standby : (f : Fed) → Starts f → (calls : List Call) → HistoryFrom f (started f) calls → Standby f calls
+standby f starts calls history other device logs lengths seal k j but accepted below inside here =
     let n = audit device other logs lengths seal .number in
     let ok = accepts device other logs lengths seal n (ap (λ (r : ℕ). record { refusal = r; number = n }) accepted) in
     let a = accountFrom f (started f) calls in
-    let g = good f starts calls in
-    (one-place f starts a g other device logs lengths seal n ok but k j below inside here, one-tag f starts a g other device logs lengths seal n ok but k j below inside here)
+    let g = good f starts calls history in
+    (one-tag f starts a g other device logs lengths seal n ok but k j below inside here, one-place f starts a g other device logs lengths seal n ok but k j below inside here)

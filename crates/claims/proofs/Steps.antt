@@ -7,6 +7,7 @@ pub mod LogsLeft
 pub mod Adding
 pub mod Entries
 pub mod Fillers
+pub mod Restarts
 pub mod Device
 pub mod Fits
 pub mod States
@@ -14,3 +15,5 @@ pub mod Agrees
 pub mod Appending
 pub mod Closing
 pub mod Opening
+pub mod Restarting
+pub mod Cutting

@@ -4,5 +4,6 @@ pub mod Run
 pub mod Claim
 pub mod Standby
 pub mod Sets
+pub mod Uncut
 pub mod Plan
 pub mod Rows

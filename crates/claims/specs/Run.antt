@@ -1,10 +1,10 @@
--- What the calls do: each step is the definition that the contract of open, append or close equates its function with.
+-- What the calls do: each step is the definition that the contract of open, append, close or restart equates its function with; a cut is none of them.
 use mathlib.Core.List.{List, [], _∷_}
 use Prim.Native.Nat.{ℕ}
 use Rattle.scheme.specs.State.{zeroState}
-use Rattle.scheme.specs.Sealer.{Effect, opens, appends, closes}
+use Rattle.scheme.specs.Sealer.{Effect, opens, appends, closes, restarts}
 use Rattle.scheme.specs.declared.State.{State}
-use Rattle.claims.specs.Account.{Call, Open, Append, Close, Answer, Fed}
+use Rattle.claims.specs.Account.{Call, Open, Append, Close, Restart, Cut, Answer, Fed}
 
 -- state, store and memories between two calls
 pub record Device : Type 0 where
@@ -17,11 +17,17 @@ pub record Device : Type 0 where
 abbrev pub deviceStarted : Fed → Device
 deviceStarted f = record { state = zeroState; store = f .store; logs = f .logs; seal = f .seal }
 
+-- a cut leaves a state of zeros, and all else as it was
+abbrev pub afterLoss : Device → Effect
+afterLoss d = record { refusal = 0; count = 0; state = zeroState; store = d .store; logs = d .logs; seal = d .seal }
+
 -- every call finds store, memories and state as the call before left them
 unfoldable pub effectOf : Device → Call → Effect
 effectOf d (Open lengths sealLength) = opens (d .store) (d .logs) lengths (d .seal) sealLength
 effectOf d (Append phase bytes) = appends (d .state) (d .store) (d .logs) (d .seal) phase bytes
 effectOf d Close = closes (d .state) (d .store) (d .logs) (d .seal)
+effectOf d (Restart number) = restarts (d .state) (d .store) (d .logs) (d .seal) number
+effectOf d Cut = afterLoss d
 
 abbrev pub deviceAfter : Effect → Device
 deviceAfter e = record { state = e .state; store = e .store; logs = e .logs; seal = e .seal }

@@ -1,32 +1,32 @@
 -- What one more item asks for, and that an account which gets it stays good.
 use mathlib.Core.Path.{_≡_, refl, sym, ap, ap₂, _∙_}
 use mathlib.Core.Bool.{Bool, true, false, cond}
-use mathlib.Core.Logic.{_⊎_, by-cases}
+use mathlib.Core.Logic.{by-cases}
 use mathlib.Core.List.{List, [], _∷_, _++_}
-use Prim.Native.Nat.{ℕ, suc, _+_, _*_, _/_, _≤_, _<_}
-use native.Mathlib.Nat.{suc-mul, mul-div-cancel}
+use Prim.Native.Nat.{ℕ, suc, _+_, _≤_, _<_}
 use native.Mathlib.Decide.{ℕ-discrete, decLt}
 use native.Mathlib.Omega.{arith}
-use lib.Arith.{digits-lt}
 use lib.Dec.{eqb, ltb}
-use lib.ListN.{length, getD, length-append, List·getD-append}
-use lib.Seq.{getD-append-seam}
-use borrow.Author.Tests.{ltb-true, lt-ltb, le-ltb, eq-eqb, ne-eqb}
-use Rattle.scheme.specs.Store.{entryKind, phases, chunkCount, ratchet}
-use Rattle.scheme.specs.Items.{itemMessage, chunkOf, offsetOf, kindOf, chunkField, dataOf, messageOf}
+use lib.ListN.{length, getD, take, length-append, List·getD-append}
+use lib.Seq.{getD-append-seam, take-append-seam, take-append-le}
+use borrow.Author.Tests.{lt-ltb, le-ltb, eq-eqb, ne-eqb}
+use Rattle.scheme.specs.Store.{entryKind, restartKind, phases, chunkCount, ratchet}
+use Rattle.scheme.specs.Items.{itemMessage, kindOf, chunkField, dataOf, messageOf}
+use Rattle.scheme.specs.Due.{KeyPlace, keyPlace, ownPlace, placeAfter, dueBehind}
 use Rattle.scheme.specs.Keys.{keyAt, tagOf}
 use Rattle.scheme.specs.Areas.{areasIn, Runs}
-use Rattle.scheme.specs.Acceptable.{KeyStore, EntryOf, FillerOf}
+use Rattle.scheme.specs.Acceptable.{ItemOf, Stands, there}
 use Rattle.scheme.specs.declared.ChunkNumber.{ChunkNumber}
 use Rattle.scheme.specs.declared.RatchetOffset.{RatchetOffset}
-use Rattle.scheme.proofs.Tests.{chosen, not-so}
+use Rattle.scheme.proofs.Tests.{chosen}
 use Rattle.scheme.proofs.Areas.{joined-last, areas-append}
 use Rattle.scheme.proofs.Runs.{runs-append}
-use Rattle.scheme.proofs.Places.{chunk-at, offset-at}
+use Rattle.scheme.proofs.Due.{same-place, after-full, after-within, due-last}
 use Rattle.scheme.proofs.Items.{Made}
 use Rattle.claims.specs.Account.{Fed, Account, logOf, carriedBy, sealReached, dueKey, stepOn}
-use Rattle.claims.proofs.Good.{Good, logIn, memoryWith, Logs, InLog, ItemAt}
+use Rattle.claims.proofs.Good.{Good, logIn, memoryWith, Logs, InLog, ItemAt, counters, front}
 use Rattle.claims.proofs.Steps.Stepping.{step-cases}
+use Rattle.claims.proofs.Steps.StoreLeft.{front-whole, front-half}
 
 -- ---- lists of items with one more
 
@@ -44,90 +44,104 @@ carried-append (y ∷ items) it x =
 
 -- ---- one more item
 
--- the place and the key of the item that is due
-module _ (f : Fed) (a : Account) (good : Good f a) where
-  pub due-chunk : chunkOf (ratchet (f .store)) (length (a .items)) ≡ a .c
-  due-chunk = ap (chunkOf (ratchet (f .store))) (good .number) ∙ chunk-at (ratchet (f .store)) (a .c .0) (a .r .0) (good .offset)
+-- what is due where no chunk waits
+pub due-counters : (f : Fed) (a : Account) → Good f a → a .waiting ≡ 0 → dueBehind (ratchet (f .store)) (a .items) ≡ counters a
+due-counters f a good none = good .due ∙ rw (eq-eqb (a .waiting) 0 none)
 
-  pub due-offset : offsetOf (ratchet (f .store)) (length (a .items)) ≡ a .r
-  due-offset = ap (offsetOf (ratchet (f .store))) (good .number) ∙ offset-at (ratchet (f .store)) (a .c .0) (a .r .0) (good .offset)
+-- no chunk waits while another is half used
+pub half-free : (f : Fed) (a : Account) → Good f a → 0 < a .r .0 → a .waiting ≡ 0
+half-free f a good inner =
+    by-cases (ℕ-discrete (a .waiting) 0) (λ none. none) (λ some. absurd (omega (arith, inner, good .waits (omega arith) .whole)))
 
 abbrev pub grownBy : Account → List ℕ → List (List ℕ) → Account
-grownBy a it logs = record { c = a .c; r = a .r; items = a .items ++ (it ∷ []); logs = logs; lost = a .lost }
+grownBy a it logs = record { c = a .c; r = a .r; items = a .items ++ (it ∷ []); logs = logs; lost = a .lost; waiting = 0 }
 
 pub record Adds (f : Fed) (a : Account) (it : List ℕ) (logs : List (List ℕ)) : Type 0 where
   pub room : a .c .0 < chunkCount (f .store)
   pub sealed : sealReached a + length it ≤ length (f .seal)
   pub fit : Logs f logs
-  pub fresh : ItemAt f logs (length (a .items)) it
-  pub kept : (k : ℕ) (x : List ℕ) → ItemAt f (a .logs) k x → ItemAt f logs k x
+  pub own : ownPlace it ≡ counters a
+  pub fresh : ItemAt f logs (a .items) it
+  pub kept : (taken : List (List ℕ)) (x : List ℕ) → ItemAt f (a .logs) taken x → ItemAt f logs taken x
   pub runs : (p : ℕ) → 1 ≤ p → p ≤ phases (f .store) → Runs (length (logOf a p)) (areasIn p (it ∷ [])) (length (logIn logs p))
 
--- a made item is the one due
-pub item-due : (f : Fed) (a : Account) → Good f a → (it head bytes tag : List ℕ) (logs : List (List ℕ)) → EntryOf (f .store) it ⊎ FillerOf (f .store) it
-    → (kindOf it ≡ entryKind → InLog f logs it) → Made it head (a .c) (a .r) tag
-    → tag ≡ tagOf (f .store) (dueKey f a) (itemMessage (f .store) head bytes) → dataOf (f .store) (memoryWith f logs) it ≡ bytes → ItemAt f logs (length (a .items)) it
+-- a made item carries the place of the counters
+pub made-own : (a : Account) (it head tag : List ℕ) → Made it head (a .c) (a .r) tag → ownPlace it ≡ counters a
+made-own a it head tag made = same-place (made .chunk) (made .offset)
+
+-- and has the tag of its message under its key
+pub item-due : (f : Fed) (a : Account) (it head bytes tag : List ℕ) (logs : List (List ℕ)) → ItemOf (f .store) it
+    → (kindOf it ≡ entryKind → InLog f logs it) → Stands (dueBehind (ratchet (f .store)) (a .items)) it → Made it head (a .c) (a .r) tag
+    → tag ≡ tagOf (f .store) (dueKey f a) (itemMessage (f .store) head bytes) → dataOf (f .store) (memoryWith f logs) it ≡ bytes → ItemAt f logs (a .items) it
 unfolding messageOf
-item-due f a good it head bytes tag logs form ranges made tagged same =
+item-due f a it head bytes tag logs form ranges stands made tagged same =
     record {
       form = form;
       ranges = ranges;
-      chunk = made .chunk ∙ sym (due-chunk f a good);
-      offset = made .offset ∙ sym (due-offset f a good);
+      place = stands;
       tag = made .tag ∙ tagged
-          ∙ sym (ap₂ (tagOf (f .store)) (ap₂ (keyAt (f .store)) (due-chunk f a good) (due-offset f a good)) (ap₂ (itemMessage (f .store)) (made .head) same));
+          ∙ sym (ap₂ (tagOf (f .store)) (ap₂ (keyAt (f .store)) (made .chunk) (made .offset)) (ap₂ (itemMessage (f .store)) (made .head) same));
     }
 
-module _ (f : Fed) (ok : KeyStore (f .store)) (a : Account) (good : Good f a) (it : List ℕ) (logs : List (List ℕ)) (adds : Adds f a it logs) where
+-- an entry or a filler stands where the counters do, as long as no chunk waits
+pub stands-there : (f : Fed) (a : Account) → Good f a → a .waiting ≡ 0 → (it : List ℕ) → (kindOf it ≡ restartKind → ⊥) → ownPlace it ≡ counters a
+    → Stands (dueBehind (ratchet (f .store)) (a .items)) it
+stands-there f a good none it other own = there {it = it} other (own ∙ sym (due-counters f a good none))
+
+module _ (f : Fed) (a : Account) (good : Good f a) (it : List ℕ) (logs : List (List ℕ)) (adds : Adds f a it logs) where
   count-grown : length (a .items ++ (it ∷ [])) ≡ suc (length (a .items))
   count-grown = rw length-append (omega arith)
 
-  burned-grown : (x : ℕ) → carriedBy (a .items ++ (it ∷ [])) x ≡ ltb (x * ratchet (f .store)) (length (a .items ++ (it ∷ [])))
+  -- its chunk is burned with it
+  burned-grown : (x : ℕ) → carriedBy (a .items ++ (it ∷ [])) x ≡ ltb x (suc (a .c .0))
   burned-grown x =
       carried-append (a .items) it x
-      ∙ ap₂ (λ (t : Bool) (c : ChunkNumber). cond t true (eqb (c .0) x)) (good .burned x) (adds .fresh .chunk ∙ due-chunk f a good)
-      ∙ by-cases (decLt first count)
-      (λ low. rw (lt-ltb first count low) (sym (lt-ltb first (suc count) (omega arith))))
-      (λ late. rw (le-ltb first count (omega arith)) (by-cases (ℕ-discrete (a .c .0) x)
-      (λ same.
-      let there = ap (λ (y : ℕ). y * ratchet (f .store)) same in
-      eq-eqb (a .c .0) x same ∙ sym (lt-ltb first (suc count) (omega (arith, good .number))))
-      (λ other. ne-eqb (a .c .0) x other ∙ sym (not-so (ltb first (suc count)) (λ low.
-      let there : count ≡ first = omega (arith, ltb-true first (suc count) low) in
-      other (sym (ap (λ c. c .0) (due-chunk f a good)) ∙ ap (λ (n : ℕ). n / ratchet (f .store)) there ∙ mul-div-cancel x (ok .ratchetLow)))))))
-      ∙ ap (ltb first) (sym count-grown)
+      ∙ ap₂ (λ (t : Bool) (c : ChunkNumber). cond t true (eqb (c .0) x)) (good .burned x) (ap (λ (p : KeyPlace). p .chunk) (adds .own))
+      ∙ by-cases (ℕ-discrete (a .r .0) 0) (λ none. by-front (a .c .0) (front-whole a none) (omega arith)) (λ some. by-front (suc (a .c .0)) (front-half a (omega arith)) (omega arith))
     where
-      first : ℕ
-      first = x * ratchet (f .store)
+      by-front : (n : ℕ) → front a ≡ n → (a .c .0 ≤ n) × (n ≤ suc (a .c .0)) → cond (ltb x (front a)) true (eqb (a .c .0) x) ≡ ltb x (suc (a .c .0))
+      by-front n is near =
+          by-cases (decLt x n)
+          (λ low. rw (is, lt-ltb x n low) (sym (lt-ltb x (suc (a .c .0)) (omega (arith, near)))))
+          (λ late. rw (is, le-ltb x n (omega arith)) (by-cases (ℕ-discrete (a .c .0) x)
+          (λ same. eq-eqb (a .c .0) x same ∙ sym (lt-ltb x (suc (a .c .0)) (omega arith)))
+          (λ other. ne-eqb (a .c .0) x other ∙ sym (le-ltb x (suc (a .c .0)) (omega (arith, near))))))
 
-      count : ℕ
-      count = length (a .items)
-
-  item-grown : (k : ℕ) → k < length (a .items ++ (it ∷ [])) → ItemAt f logs k (getD (a .items ++ (it ∷ [])) k [])
+  item-grown : (k : ℕ) → k < length (a .items ++ (it ∷ [])) → ItemAt f logs (take k (a .items ++ (it ∷ []))) (getD (a .items ++ (it ∷ [])) k [])
   item-grown k h =
       by-cases (decLt k (length (a .items)))
-      (λ before. rw (List·getD-append (a .items) (it ∷ []) [] k before) (adds .kept k (getD (a .items) k []) (good .items k before)))
+      (λ before.
+      rw (List·getD-append (a .items) (it ∷ []) [] k before, take-append-le k (a .items) (it ∷ []) (omega arith))
+      (adds .kept (take k (a .items)) (getD (a .items) k []) (good .items k before)))
       (λ late.
       let last : k ≡ length (a .items) = omega (arith, count-grown) in
-      rw (last, getD-append-seam (a .items) it [] []) (adds .fresh))
+      rw (last, getD-append-seam (a .items) it [] [], take-append-seam (a .items) (it ∷ [])) (adds .fresh))
 
-  grown-good : (c : ChunkNumber) (r : RatchetOffset) → r .0 < ratchet (f .store) → suc (length (a .items)) ≡ c .0 * ratchet (f .store) + r .0
-      → Good f (record { c = c; r = r; items = a .items ++ (it ∷ []); logs = logs; lost = a .lost })
-  grown-good c r below number =
+  abbrev at : ChunkNumber → RatchetOffset → Account
+  at c r = record { c = c; r = r; items = a .items ++ (it ∷ []); logs = logs; lost = a .lost; waiting = 0 }
+
+  grown-good : (c : ChunkNumber) (r : RatchetOffset) → r .0 < ratchet (f .store) → dueBehind (ratchet (f .store)) (a .items ++ (it ∷ [])) ≡ counters (at c r)
+      → front (at c r) ≡ suc (a .c .0) → Good f (at c r)
+  grown-good c r below due ends =
       record {
         offset = below;
-        number = count-grown ∙ number;
-        spent = rw (count-grown, good .number) (digits-lt (adds .room) (good .offset));
+        due = due;
+        waits = λ some. absurd (omega arith);
+        spent = omega (arith, ends, adds .room);
         sealed = rw (joined-last, length-append) (adds .sealed);
         logs = adds .fit;
         items = item-grown;
-        burned = burned-grown;
+        burned = λ x. burned-grown x ∙ ap (ltb x) (sym ends);
         runs = λ p low high. rw areas-append (runs-append (good .runs p low high) (adds .runs p low high));
         standing = λ lost. rw count-grown (omega arith);
       }
 
+  behind : {place : KeyPlace} → placeAfter (ratchet (f .store)) (counters a) ≡ place → dueBehind (ratchet (f .store)) (a .items ++ (it ∷ [])) ≡ place
+  behind e = due-last (ratchet (f .store)) (keyPlace 0 0) (a .items) it ∙ ap (placeAfter (ratchet (f .store))) (adds .own) ∙ e
+
   pub adds-good : Good f (stepOn f (grownBy a it logs))
   adds-good =
       step-cases f (grownBy a it logs) (Good f)
-      (λ full. grown-good (record { 0 = suc (a .c .0) }) (record { 0 = 0 }) (omega arith) (rw suc-mul (omega arith)))
-      (λ apart. grown-good (a .c) (record { 0 = suc (a .r .0) }) (omega arith) (omega arith))
+      (λ full. grown-good (record { 0 = suc (a .c .0) }) (record { 0 = 0 }) (omega (arith, good .offset)) (behind (after-full (ratchet (f .store)) (counters a) full)) refl)
+      (λ apart. grown-good (a .c) (record { 0 = suc (a .r .0) }) (omega (arith, good .offset, apart)) (behind (after-within (ratchet (f .store)) (counters a) apart))
+      (rw (ne-eqb (suc (a .r .0)) 0 (λ z. omega arith))))

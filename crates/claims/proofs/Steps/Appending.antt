@@ -12,7 +12,7 @@ use Rattle.scheme.specs.declared.State.{State}
 use Rattle.scheme.proofs.Rules.{passed}
 use Rattle.scheme.proofs.Headers.{same-log-place, same-entry-length}
 use Rattle.scheme.proofs.Burning.{zeroed}
-use Rattle.claims.specs.Account.{Append, Fed, Account, entryDue, withLost, withItem, withData, stepOn, accountAppend, accountAppendRules, accountRefusal, accountCount, accountDone, accountRefused}
+use Rattle.claims.specs.Account.{Append, Fed, Account, entryDue, withLost, withItem, withData, stepOn, accountAppend, accountAppendRules, accountRefusal, accountCount, accountDone, accountRefused, Allowed}
 use Rattle.claims.specs.Run.{deviceAfter, answerOf}
 use Rattle.claims.specs.Claim.{storeLeft, logsLeft, sealLeft}
 use Rattle.claims.proofs.Good.{Good}
@@ -57,10 +57,10 @@ module _ (f : Fed) (begun : Begun f) (a : Account) (good : Good f a) (phase : �
   unfolding accountRefusal accountAppendRules
   append-kept e = passed (accountAppendRules f a phase bytes) refl e 6
 
-  append-device : accountRefusal f a (Append phase bytes) ≡ 0
+  append-device : Allowed f a (Append phase bytes) → accountRefusal f a (Append phase bytes) ≡ 0
       → deviceAfter (appended (held f a) (storeLeft f a) (logsLeft f a) (sealLeft f a) phase bytes) ≡ deviceOf f (accountDone f a (Append phase bytes))
   unfolding appended accountDone accountAppend
-  append-device e =
+  append-device allowed e =
       let asks = append-asks f begun a good phase bytes e in
       let it = entryDue f a phase bytes in
       let long = entry-long f begun a phase bytes in
@@ -71,7 +71,7 @@ module _ (f : Fed) (begun : Begun f) (a : Account) (good : Good f a) (phase : �
       ∙ sym (state-held f (stepOn f b) (step-lost f b ∙ append-kept e)))
       (burned-due f begun a good (asks .room)
       ∙ ap (zeroed (f .store)) (sym (step-front f b))
-      ∙ sym (store-left f (stepOn f b) (done-good f begun a (Append phase bytes) good e) (begun .store)))
+      ∙ sym (store-left f (stepOn f b) (done-good f begun a (Append phase bytes) good allowed e) (begun .store)))
       (rw (eight-log (a .logs) (8 - length (a .logs)) (phase - 1), step-logs f b, same-log-place (storeLeft f a) (f .store) (left-fields f begun a good))
       (sym (placed-grown f 0 (a .logs) (f .logs) room (phase - 1) phase bytes (omega arith) (omega arith) (asks .fits))))
       (rw (entry-made f begun a good phase bytes, step-items f b) (seal-append f a it (omega arith)))
@@ -81,12 +81,12 @@ module _ (f : Fed) (begun : Begun f) (a : Account) (good : Good f a) (phase : �
   unfolding appended accountCount
   append-answer = rw (left-fields f begun a good .ratchet)
 
-  pub append-agrees : Agrees f a (Append phase bytes) (appends (stateOf f a) (storeLeft f a) (logsLeft f a) (sealLeft f a) phase bytes)
+  pub append-agrees : Allowed f a (Append phase bytes) → Agrees f a (Append phase bytes) (appends (stateOf f a) (storeLeft f a) (logsLeft f a) (sealLeft f a) phase bytes)
   unfolding appends accountRefused
-  append-agrees =
+  append-agrees allowed =
       agree f a (Append phase bytes) (refusalBy (appendRules (stateOf f a) (storeLeft f a) (logsLeft f a) (sealLeft f a) phase bytes))
       (appended (stateOf f a) (storeLeft f a) (logsLeft f a) (sealLeft f a) phase bytes)
       append-refusal
       (λ e. ap (λ (s : State). answerOf (appended s (storeLeft f a) (logsLeft f a) (sealLeft f a) phase bytes)) (state-held f a (append-kept e)) ∙ append-answer)
-      (λ e. ap (λ (s : State). deviceAfter (appended s (storeLeft f a) (logsLeft f a) (sealLeft f a) phase bytes)) (state-held f a (append-kept e)) ∙ append-device e)
+      (λ e. ap (λ (s : State). deviceAfter (appended s (storeLeft f a) (logsLeft f a) (sealLeft f a) phase bytes)) (state-held f a (append-kept e)) ∙ append-device allowed e)
       refl

@@ -20,11 +20,11 @@ use Rattle.scheme.proofs.Acceptance.Stores.{key-store}
 use Rattle.claims.specs.Account.{Fed, Account, lengthsOf, sealReached, dueKey}
 use Rattle.claims.specs.Run.{Device}
 use Rattle.claims.specs.Claim.{storeLeft, logsLeft, sealLeft}
-use Rattle.claims.proofs.Good.{Good}
+use Rattle.claims.proofs.Good.{Good, front}
 use Rattle.claims.proofs.Steps.Begun.{Begun}
 use Rattle.claims.proofs.Steps.LogsLeft.{logs-room}
 use Rattle.claims.proofs.Steps.Placed.{placed-length}
-use Rattle.claims.proofs.Steps.StoreLeft.{front, front-at-most, store-left}
+use Rattle.claims.proofs.Steps.StoreLeft.{store-left}
 
 -- eight lengths, zero beyond the phases
 abbrev pub eight : List (List ℕ) → List ℕ
@@ -80,7 +80,7 @@ lengths-none (log ∷ logs) none = ap₂ (λ (n : ℕ) (ns : List ℕ). n ∷ ns
 
 module _ (f : Fed) (begun : Begun f) (a : Account) (good : Good f a) where
   most : front a ≤ chunkCount (f .store)
-  most = front-at-most f a good (begun .store)
+  most = good .spent
 
   pub left-header : header (storeLeft f a) ≡ header (f .store)
   left-header = ap header (store-left f a good (begun .store)) ∙ zeroed-header (f .store) (begun .store) (front a) most

@@ -22,7 +22,7 @@ use Rattle.scheme.proofs.Items.{MadeEntry, made-entry, entry-fields, entry-leng
 use Rattle.claims.specs.Account.{Fed, Account, logOf, dueKey, headDue, entryDue, sealReached}
 use Rattle.claims.proofs.Good.{Good, logIn, memoryWith, Logs, InLog}
 use Rattle.claims.proofs.Steps.Begun.{Begun}
-use Rattle.claims.proofs.Steps.Adding.{Adds, item-due}
+use Rattle.claims.proofs.Steps.Adding.{Adds, made-own, item-due, stands-there}
 use Rattle.claims.proofs.Steps.LogsLeft.{log-part, item-kept}
 
 -- what an append that is not refused has found
@@ -47,7 +47,7 @@ entry-long f begun a phase bytes =
     ∙ ap (λ (n : ℕ). entryHeadLength + n) (tag-length (f .store) key message (begun .store .set .tagHigh))
     ∙ sym (entry-value (f .store))
 
-module _ (f : Fed) (begun : Begun f) (a : Account) (good : Good f a) (phase : ℕ) (bytes : List ℕ) (asks : Appends f a phase bytes) where
+module _ (f : Fed) (begun : Begun f) (a : Account) (good : Good f a) (free : a .waiting ≡ 0) (phase : ℕ) (bytes : List ℕ) (asks : Appends f a phase bytes) where
   -- the log of the phase grows, and no other
   log-same : (q : ℕ) → q - 1 ≡ phase - 1 → getD (logsWith a phase bytes) (q - 1) [] ≡ logOf a phase ++ bytes
   log-same q e = rw e (getD-set-same (a .logs) (phase - 1) (logOf a phase ++ bytes) [] (omega arith))
@@ -116,12 +116,15 @@ module _ (f : Fed) (begun : Begun f) (a : Account) (good : Good f a) (phase : �
       let made : MadeEntry (head ++ tag) phase (length (logOf a phase)) (length bytes) =
       entry-fields _ _ tag _ _ _
       (omega (arith, good .logs .sizes (phase - 1), high .capacityHigh)) (omega (arith, asks .few, high .dataHigh)) in
+      let is = made-entry (a .c) (a .r) tag (omega (arith, asks .room, begun .store .chunksHigh)) (omega (arith, good .offset, begun .store .ratchetHigh)) phase (length (logOf a phase)) (length bytes) in
+      let own = made-own a (head ++ tag) head tag is in
       record {
         room = asks .room;
         sealed = rw long (asks .sealed);
         fit = grown-logs;
-        fresh = item-due f a good (head ++ tag) head bytes tag logs (inl (made .kind, long)) (λ kind. item-ranges (head ++ tag) made)
-            (made-entry (a .c) (a .r) tag (omega arith) (omega arith) phase (length (logOf a phase)) (length bytes)) refl (item-data (head ++ tag) made);
+        own = own;
+        fresh = item-due f a (head ++ tag) head bytes tag logs (inl (made .kind, long)) (λ kind. item-ranges (head ++ tag) made)
+            (stands-there f a good free (head ++ tag) (λ kind. omega (arith, kind, made .kind)) own) is refl (item-data (head ++ tag) made);
         kept = item-kept f begun (a .logs) logs (good .logs) grown-logs grown-front;
         runs = item-runs (head ++ tag) made;
       }

@@ -1,7 +1,7 @@
 -- A close that is not refused adds fillers up to offset 0, and each gives the account all that one more item asks for.
 use mathlib.Core.Path.{_≡_, refl, sym, ap, _∙_}
 use mathlib.Core.Bool.{cond}
-use mathlib.Core.Logic.{inr, by-cases}
+use mathlib.Core.Logic.{inl, inr, by-cases}
 use mathlib.Core.List.{List, [], _∷_, _++_}
 use Prim.Native.Nat.{ℕ, zero, suc, _+_, _-_, _*_, _≤_, _<_}
 use native.Mathlib.Decide.{ℕ-discrete}
@@ -22,7 +22,7 @@ use Rattle.scheme.proofs.Items.{made-filler, filler-kind, filler-length, filler
 use Rattle.claims.specs.Account.{Fed, Account, dueKey, fillerDue, sealReached, stepOn, withItem, accountClose, afterClose}
 use Rattle.claims.proofs.Good.{Good, memoryWith}
 use Rattle.claims.proofs.Steps.Begun.{Begun}
-use Rattle.claims.proofs.Steps.Adding.{Adds, item-due, adds-good}
+use Rattle.claims.proofs.Steps.Adding.{Adds, half-free, made-own, item-due, stands-there, adds-good}
 use Rattle.claims.proofs.Steps.Stepping.{step-cases, step-items}
 use Rattle.claims.proofs.Steps.StoreLeft.{chunk-below}
 
@@ -38,17 +38,21 @@ module _ (f : Fed) (begun : Begun f) (a : Account) (good : Good f a) where
   filler-adds : 0 < a .r .0 → sealReached a + fillerLength (f .store) ≤ length (f .seal) → Adds f a (fillerDue f a) (a .logs)
   unfolding fillerDue areasIn
   filler-adds inner sealed =
+      let free = half-free f a good inner in
       let room = chunk-below f a good (begun .store) inner in
       let long = filler-long f begun a in
       let head = fillerHead (a .c) (a .r) in
       let tag = tagOf (f .store) (dueKey f a) (itemMessage (f .store) head []) in
       let kind = filler-kind (a .c) (a .r) tag in
+      let is = made-filler (a .c) (a .r) tag (omega (arith, room, begun .store .chunksHigh)) (omega (arith, good .offset, begun .store .ratchetHigh)) in
+      let own = made-own a (head ++ tag) head tag is in
       record {
         room = room;
         sealed = rw long sealed;
         fit = good .logs;
-        fresh = item-due f a good (head ++ tag) head [] tag (a .logs) (inr (kind, long)) (λ entry. absurd (omega (arith, kind, entry)))
-            (made-filler (a .c) (a .r) tag (omega arith) (omega arith)) refl (filler-data (f .store) (memoryWith f (a .logs)) (head ++ tag) kind);
+        own = own;
+        fresh = item-due f a (head ++ tag) head [] tag (a .logs) (inr (inl (kind, long))) (λ entry. absurd (omega (arith, kind, entry)))
+            (stands-there f a good free (head ++ tag) (λ restart. omega (arith, kind, restart)) own) is refl (filler-data (f .store) (memoryWith f (a .logs)) (head ++ tag) kind);
         kept = λ k it i. i;
         runs = λ q low high. rw kind none;
       }
@@ -131,7 +135,7 @@ module _ (f : Fed) (begun : Begun f) where
   fill-good zero a good e h = good
   fill-good (suc k) a good e h =
       fill-good k (filled f a)
-      (adds-good f (begun .store) a good (fillerDue f a) (a .logs) (filler-adds f begun a good (left-some f a k e .0) (omega arith))) (left-next f a k (good .offset) e)
+      (adds-good f a good (fillerDue f a) (a .logs) (filler-adds f begun a good (left-some f a k e .0) (omega arith))) (left-next f a k (good .offset) e)
       (omega (arith, filled-sealed a))
 
   -- what close adds to the seal file

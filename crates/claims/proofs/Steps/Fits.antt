@@ -2,30 +2,43 @@
 use mathlib.Core.Path.{_≡_, refl, sym, ap, _∙_}
 use mathlib.Core.Bool.{Bool, true, false, not, cond, Bool·beq, true≢false}
 use mathlib.Core.Logic.{inl, inr, by-cases}
-use mathlib.Core.List.{[], _∷_}
-use Prim.Native.Nat.{_-_, _*_, _<_}
-use native.Mathlib.Nat.{zero-mul}
+use mathlib.Core.List.{List, [], _∷_}
+use Prim.Native.Nat.{ℕ, zero, suc, _-_, _<_}
 use native.Mathlib.Decide.{ℕ-discrete, decLt}
 use native.Mathlib.Omega.{arith}
 use lib.Dec.{eqb, ltb}
 use lib.ListN.{length, getD, drop, replicate}
 use lib.Seq.{drop-at}
-use borrow.Author.Tests.{eq-eqb, lt-ltb, le-ltb, le-leb}
+use borrow.Author.Tests.{eq-eqb, ltb-true, lt-ltb, le-ltb, le-leb}
 use Rattle.scheme.specs.Bytes.{allZero}
 use Rattle.scheme.specs.Rules.{anyTrue}
 use Rattle.scheme.specs.Store.{logCapacity, phases, chunkCount, ratchet, burned, anyOver}
+use Rattle.scheme.specs.Items.{chunkField}
 use Rattle.scheme.specs.State.{zeroState, fits}
-use Rattle.scheme.proofs.Tests.{not-so, same-beq, same-ltb}
+use Rattle.scheme.proofs.Tests.{not-so, same-beq, same-ltb, either}
 use Rattle.scheme.proofs.Rules.{all-true, each-true, _also_, either-true}
 use Rattle.scheme.proofs.Bytes.{zeros}
 use Rattle.scheme.proofs.Scans.{nowhere}
 use Rattle.scheme.proofs.Headers.{SameFields}
-use Rattle.claims.specs.Account.{Fed, Account, lengthsOf, sealReached}
+use Rattle.claims.specs.Account.{Fed, Account, carriedBy, lengthsOf, sealReached}
 use Rattle.claims.specs.Claim.{storeLeft, sealLeft}
-use Rattle.claims.proofs.Good.{Good}
+use Rattle.claims.proofs.Good.{Good, itemOf, front}
 use Rattle.claims.proofs.Steps.Begun.{Begun}
 use Rattle.claims.proofs.Steps.Device.{eight, held, stateOf, eight-log, lengths-length, left-fields, left-seal}
-use Rattle.claims.proofs.Steps.StoreLeft.{chunk-at-most, chunk-below, burned-left}
+use Rattle.claims.proofs.Steps.StoreLeft.{front-whole, front-half, chunk-at-most, chunk-below, burned-left}
+
+-- an item carries its chunk, which is burned
+carried-item : (items : List (List ℕ)) (k : ℕ) → k < length items → carriedBy items (chunkField (getD items k []) .0) ≡ true
+unfolding carriedBy
+carried-item [] k h = absurd (omega arith)
+carried-item (it ∷ items) zero h = rw (eq-eqb (chunkField it .0) (chunkField it .0) refl)
+carried-item (it ∷ items) (suc k) h =
+    either (λ t. t ≡ true) (eqb (chunkField it .0) (chunkField (getD items k []) .0)) refl (carried-item items k (omega arith))
+
+pub item-burned : (f : Fed) (a : Account) → Good f a → (k : ℕ) → k < length (a .items) → chunkField (itemOf a k) .0 < front a
+item-burned f a good k h =
+    let x = chunkField (itemOf a k) .0 in
+    ltb-true x (front a) (sym (good .burned x) ∙ carried-item (a .items) k h)
 
 module _ (f : Fed) (begun : Begun f) (a : Account) (good : Good f a) where
   fields : SameFields (storeLeft f a) (f .store)
@@ -39,7 +52,10 @@ module _ (f : Fed) (begun : Begun f) (a : Account) (good : Good f a) where
 
   burned-test : anyTrue (not (ltb (a .c .0) (chunkCount (f .store))) ∷ Bool·beq (burned (storeLeft f a) (a .c .0)) (ltb 0 (a .r .0)) ∷ []) ≡ true
   burned-test =
-      let same = same-ltb (a .c .0 * ratchet (f .store)) (length (a .items)) 0 (a .r .0) ((λ h. omega arith), (λ h. omega arith)) in
+      let same = same-ltb (a .c .0) (front a) 0 (a .r .0) (
+        (λ h. by-cases (ℕ-discrete (a .r .0) 0) (λ none. absurd (omega (arith, h, front-whole a none))) (λ some. omega arith)),
+        (λ h. omega (arith, front-half a h)),
+      ) in
       either-true _ _ .1 (by-cases (decLt (a .c .0) (chunkCount (f .store)))
       (λ below. inr (rw (burned-left f a good (begun .store) (begun .unused) (a .c .0) below, good .burned (a .c .0), same, same-beq)))
       (λ over. inl (ap not (le-ltb (a .c .0) (chunkCount (f .store)) (omega arith)))))
@@ -81,7 +97,7 @@ module _ (f : Fed) (begun : Begun f) (a : Account) (good : Good f a) where
       first =
           burned-left f a good (begun .store) (begun .unused) 0 (begun .store .chunksLow)
           ∙ good .burned 0
-          ∙ lt-ltb (0 * ratchet (f .store)) (length (a .items)) (rw zero-mul h)
+          ∙ lt-ltb 0 (front a) (omega (arith, item-burned f a good 0 h))
 
       clash : anyTrue (not (ltb 0 (chunkCount (storeLeft f a))) ∷ Bool·beq (burned (storeLeft f a) 0) (ltb 0 0) ∷ []) ≡ false
       clash = rw (chunks, first)

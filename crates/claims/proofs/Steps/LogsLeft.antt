@@ -1,17 +1,17 @@
 -- The data of an entry item in the log memory that an account leaves: the part of its phase's log, which stays when logs grow.
 use mathlib.Core.Path.{_≡_, sym, ap, _∙_}
 use mathlib.Core.Bool.{cond}
-use mathlib.Core.Logic.{_⊎_, inl, inr}
+use mathlib.Core.Logic.{inl, inr}
 use mathlib.Core.List.{List, []}
 use Prim.Native.Nat.{ℕ, _+_, _-_, _≤_}
 use native.Mathlib.Omega.{arith}
 use lib.ListN.{length, take, drop, length-take}
 use lib.Seq.{drop-drop}
 use Rattle.scheme.specs.Bytes.{part}
-use Rattle.scheme.specs.Store.{logPlace, phases, ratchet}
-use Rattle.scheme.specs.Items.{itemMessage, chunkOf, offsetOf, isEntry, phaseOf, logOffset, dataLength, headOf, dataOf, messageOf}
-use Rattle.scheme.specs.Keys.{keyAt, tagOf}
-use Rattle.scheme.specs.Acceptable.{EntryOf, FillerOf}
+use Rattle.scheme.specs.Store.{logPlace, phases}
+use Rattle.scheme.specs.Items.{itemMessage, isEntry, phaseOf, logOffset, dataLength, headOf, dataOf, messageOf}
+use Rattle.scheme.specs.Keys.{keyOf, tagOf}
+use Rattle.scheme.specs.Acceptable.{ItemOf}
 use Rattle.scheme.proofs.Parameters.{log-inside}
 use Rattle.scheme.proofs.Splice.{part-of-front}
 use Rattle.claims.specs.Account.{Fed}
@@ -44,11 +44,11 @@ module _ (f : Fed) (begun : Begun f) (logs more : List (List ℕ)) (ok : Logs f 
       let longer = sym (length-take (length (logIn logs p)) (logIn more p)) ∙ ap length (grows p) in
       record { low = e .low; high = e .high; some = e .some; few = e .few; inside = omega (arith, e .inside) }
 
-  data-kept : (k : ℕ) (it : List ℕ) → ItemAt f logs k it → dataOf (f .store) (memoryWith f logs) it ≡ dataOf (f .store) (memoryWith f more) it
+  data-kept : (taken : List (List ℕ)) (it : List ℕ) → ItemAt f logs taken it → dataOf (f .store) (memoryWith f logs) it ≡ dataOf (f .store) (memoryWith f more) it
   unfolding dataOf
-  data-kept k it i = go (i .form)
+  data-kept taken it i = go (i .form)
     where
-      go : EntryOf (f .store) it ⊎ FillerOf (f .store) it → dataOf (f .store) (memoryWith f logs) it ≡ dataOf (f .store) (memoryWith f more) it
+      go : ItemOf (f .store) it → dataOf (f .store) (memoryWith f logs) it ≡ dataOf (f .store) (memoryWith f more) it
       go (inl entry) =
           let p = phaseOf it in
           let e = i .ranges (entry .0) in
@@ -58,17 +58,15 @@ module _ (f : Fed) (begun : Begun f) (logs more : List (List ℕ)) (ok : Logs f 
           (log-part f begun more too p (logOffset it) (dataLength it) (e .low) (e .high) (in-log it e .inside)
           ∙ part-of-front (logIn more p) (logOffset it) (dataLength it) (length (logIn logs p)) (e .inside)
           ∙ ap (λ (l : List ℕ). part l (logOffset it) (dataLength it)) (grows p)))
-      go (inr filler) = rw (filler .0)
+      go (inr (inl filler)) = rw (filler .0)
+      go (inr (inr restart)) = rw (restart .0)
 
-  pub item-kept : (k : ℕ) (it : List ℕ) → ItemAt f logs k it → ItemAt f more k it
+  pub item-kept : (taken : List (List ℕ)) (it : List ℕ) → ItemAt f logs taken it → ItemAt f more taken it
   unfolding messageOf
-  item-kept k it i =
+  item-kept taken it i =
       record {
         form = i .form;
         ranges = λ kind. in-log it (i .ranges kind);
-        chunk = i .chunk;
-        offset = i .offset;
-        tag = i .tag
-            ∙ ap (λ (d : List ℕ). tagOf (f .store) (keyAt (f .store) (chunkOf (ratchet (f .store)) k) (offsetOf (ratchet (f .store)) k)) (itemMessage (f .store) (headOf it) d))
-            (data-kept k it i);
+        place = i .place;
+        tag = i .tag ∙ ap (λ (d : List ℕ). tagOf (f .store) (keyOf (f .store) it) (itemMessage (f .store) (headOf it) d)) (data-kept taken it i);
       }

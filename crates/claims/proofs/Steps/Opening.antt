@@ -4,29 +4,29 @@ use mathlib.Core.Bool.{Bool, true, false, _||_, cond}
 use mathlib.Core.Logic.{by-cases}
 use mathlib.Core.List.{List, [], _∷_, _++_}
 use Prim.Native.Nat.{ℕ, suc, _+_, _-_, _<_}
-use native.Mathlib.Nat.{le-mul-of-pos-right}
-use native.Mathlib.Decide.{decLt}
+use native.Mathlib.Decide.{ℕ-discrete, decLt}
 use native.Mathlib.Omega.{arith}
 use lib.Dec.{eqb, ltb}
 use lib.ListN.{length, getD, replicate, replicate-append-replicate, List·getD-eq-default}
-use borrow.Author.Tests.{eqb-true, ltb-false, lt-ltb, le-ltb, eq-eqb}
+use borrow.Author.Tests.{eqb-true, ltb-false, lt-ltb, le-ltb, eq-eqb, ne-eqb}
 use Rattle.scheme.specs.Rules.{refusalBy, someFrom, row}
-use Rattle.scheme.specs.Store.{phases, chunkCount, burned, burnedFront, burnedLater}
+use Rattle.scheme.specs.Store.{phases, chunkCount, ratchet, burned, burnedFront, burnedLater}
 use Rattle.scheme.specs.State.{zeroState, openedState}
 use Rattle.scheme.specs.Sealer.{openRules, opens}
 use Rattle.scheme.specs.Areas.{areasIn}
+use Rattle.scheme.specs.Due.{KeyPlace, keyPlace, dueFrom, dueBehind}
 use Rattle.scheme.specs.Bytes.{joined}
 use Rattle.scheme.proofs.Scans.{same-scan, same-row, row-most, row-is}
 use Rattle.scheme.proofs.Headers.{same-bad-lengths}
 use Rattle.scheme.proofs.Runs.{run-ends}
-use Rattle.claims.specs.Account.{Call, Open, Fed, Account, lengthsReached, sealReached, carried, dueKey, withLost, accountOpenRules, accountRefusal, accountCount, accountDone, accountRefused, Allowed}
+use Rattle.claims.specs.Account.{Call, Open, Fed, Account, lengthsReached, sealReached, carried, dueKey, withLost, losing, accountOpenRules, accountRefusal, accountCount, accountDone, accountRefused, Allowed}
 use Rattle.claims.specs.Claim.{storeLeft, logsLeft, sealLeft}
-use Rattle.claims.proofs.Good.{Good}
+use Rattle.claims.proofs.Good.{Good, front, counters, placeDue}
 use Rattle.claims.proofs.Steps.Agrees.{Agrees, answer-done, step-done, answer-refused, step-refused, same-device}
 use Rattle.claims.proofs.Steps.Begun.{Begun}
 use Rattle.claims.proofs.Steps.Device.{eight, held, stateOf, deviceOf, lengths-length, lengths-none, left-fields, left-bad, left-bad-logs, left-seal}
 use Rattle.claims.proofs.Invariant.{done-good, refused-good}
-use Rattle.claims.proofs.Steps.StoreLeft.{front, front-whole, chunk-at-most, carried-front, store-left, burned-left}
+use Rattle.claims.proofs.Steps.StoreLeft.{front-whole, chunk-at-most, store-left, burned-left}
 
 -- ---- with no items
 
@@ -59,11 +59,27 @@ module _ (f : Fed) (begun : Begun f) (a : Account) (good : Good f a) (empty : le
   unfolding joined
   no-seal = rw (no-items (a .items) empty)
 
-  no-chunk : a .c .0 ≡ 0
-  no-chunk = omega (arith, le-mul-of-pos-right (a .c .0) (begun .store .ratchetLow))
+  -- the first key is due
+  no-place : placeDue a ≡ keyPlace 0 0
+  unfolding dueFrom
+  no-place = sym (good .due) ∙ ap (dueBehind (ratchet (f .store))) (no-items (a .items) empty)
 
-  no-offset : a .r .0 ≡ 0
-  no-offset = omega arith
+  none-waits : a .waiting ≡ 0
+  none-waits =
+      by-cases (ℕ-discrete (a .waiting) 0)
+      (λ none. none)
+      (λ some.
+      let first : keyPlace (a .c .0 - 1) (a .waiting) ≡ keyPlace 0 0 = rw (ne-eqb (a .waiting) 0 some) at no-place in
+      ap (λ (p : KeyPlace). p .offset .0) first)
+
+  first-place : counters a ≡ keyPlace 0 0
+  first-place = rw (eq-eqb (a .waiting) 0 none-waits) at no-place
+
+  pub no-chunk : a .c .0 ≡ 0
+  no-chunk = ap (λ (p : KeyPlace). p .chunk .0) first-place
+
+  pub no-offset : a .r .0 ≡ 0
+  no-offset = ap (λ (p : KeyPlace). p .offset .0) first-place
 
   pub empty-held : held f a ≡ zeroState
   empty-held =
@@ -102,14 +118,14 @@ module _ (f : Fed) (begun : Begun f) (a : Account) (good : Good f a) where
       let ends = front-whole a e in
       burned-front
       ∙ row-is (carried a) 0 (chunkCount (f .store)) (a .c .0) (chunk-at-most f a good (begun .store))
-      (λ x low high. carried-front f a good (begun .store) x ∙ lt-ltb x (front a) (omega arith))
-      (λ h. carried-front f a good (begun .store) (0 + a .c .0) ∙ le-ltb (0 + a .c .0) (front a) (omega arith))
+      (λ x low high. good .burned x ∙ lt-ltb x (front a) (omega arith))
+      (λ h. good .burned (0 + a .c .0) ∙ le-ltb (0 + a .c .0) (front a) (omega arith))
 
   -- losing or finding the state changes no store
-  store-same : (lost : Bool) → Good f (withLost a lost) → storeLeft f a ≡ storeLeft f (withLost a lost)
+  pub store-same : (lost : Bool) → Good f (withLost a lost) → storeLeft f a ≡ storeLeft f (withLost a lost)
   store-same lost moved = store-left f a good (begun .store) ∙ sym (store-left f (withLost a lost) moved (begun .store))
 
-  zero-held : zeroState ≡ stateOf f (withLost a (a .lost || ltb 0 (length (a .items))))
+  pub zero-held : zeroState ≡ stateOf f (losing a)
   zero-held = go (a .lost) (ltb 0 (length (a .items))) (good .standing) refl
     where
       go : (t u : Bool) → (t ≡ true → 0 < length (a .items)) → ltb 0 (length (a .items)) ≡ u → zeroState ≡ cond (t || u) zeroState (held f a)
@@ -167,7 +183,7 @@ module _ (f : Fed) (begun : Begun f) (a : Account) (good : Good f a) where
             record {
               answer = ap (λ (n : ℕ). record { refusal = n; count = 0 }) none ∙ sym (answer-done f a call none);
               device = same-device (opened-held (omega arith) (given .1) (given .2))
-                  (store-same false (done-good f begun a call good none)) refl refl
+                  (store-same false (done-good f begun a call good allowed none)) refl refl
                   ∙ ap (deviceOf f) (sym (step-done f a call none));
             }
         go false e =

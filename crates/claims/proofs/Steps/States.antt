@@ -21,12 +21,12 @@ use Rattle.scheme.proofs.Tags.{same-tag}
 use Rattle.scheme.proofs.Burning.{zeroed, zeroed-later, zeroed-next}
 use Rattle.claims.specs.Account.{Fed, Account, logOf, sealReached, dueKey, entryDue, fillerDue, withItem, withData, stepOn}
 use Rattle.claims.specs.Claim.{storeLeft, sealLeft}
-use Rattle.claims.proofs.Good.{Good}
+use Rattle.claims.proofs.Good.{Good, front}
 use Rattle.claims.proofs.Steps.Begun.{Begun}
 use Rattle.claims.proofs.Steps.Device.{eight, holding, held, eight-log, lengths-set, left-fields, seal-append}
 use Rattle.claims.proofs.Steps.Fillers.{left, left-some, left-next, fill, filled, filled-below, filler-long, filled-sealed}
 use Rattle.claims.proofs.Steps.Stepping.{step-turned, step-onward, step-cases, step-items, step-logs, step-lost}
-use Rattle.claims.proofs.Steps.StoreLeft.{front, front-at-most, store-left}
+use Rattle.claims.proofs.Steps.StoreLeft.{front-whole, store-left}
 
 -- after an item sealed with the due key
 module _ (f : Fed) (store : List ℕ) (same : SameFields store (f .store)) where
@@ -34,7 +34,7 @@ module _ (f : Fed) (store : List ℕ) (same : SameFields store (f .store)) where
   unfolding nextKey
   next-due key r = rw (same-ratchet-message store (f .store) same r)
 
-  stepped-held : (a : Account) → a .r .0 < ratchet (f .store) → (key : List ℕ) → stepped store (dueKey f a) (holding a key) ≡ held f (stepOn f a)
+  pub stepped-held : (a : Account) → a .r .0 < ratchet (f .store) → (key : List ℕ) → stepped store (dueKey f a) (holding a key) ≡ held f (stepOn f a)
   unfolding stepped keyAfter
   stepped-held a below key =
       by-cases (ℕ-discrete (suc (a .r .0)) (ratchet (f .store)))
@@ -45,16 +45,19 @@ module _ (f : Fed) (store : List ℕ) (same : SameFields store (f .store)) where
 
 -- the key that is used is the due one
 module _ (f : Fed) (begun : Begun f) (a : Account) (good : Good f a) where
+  pub first-due : a .r .0 ≡ 0 → chunk (storeLeft f a) (a .c .0) ≡ dueKey f a
+  unfolding keyAfter
+  first-due first =
+      ap (λ (st : List ℕ). chunk st (a .c .0)) (store-left f a good (begun .store))
+      ∙ zeroed-later (f .store) (begun .store) (front a) (good .spent) (a .c .0) (omega (arith, front-whole a first))
+      ∙ ap (keyAfter (f .store) (a .c)) (sym first)
+
   used-due : usedKey (storeLeft f a) (held f a) ≡ dueKey f a
-  unfolding usedKey keyAfter
+  unfolding usedKey
   used-due = go (eqb (a .r .0) 0) refl
     where
       go : (t : Bool) → eqb (a .r .0) 0 ≡ t → cond t (chunk (storeLeft f a) (a .c .0)) (cond t (replicate 32 0) (dueKey f a)) ≡ dueKey f a
-      go true e =
-          let low : front a ≤ a .c .0 = rw e (omega arith) in
-          ap (λ (st : List ℕ). chunk st (a .c .0)) (store-left f a good (begun .store))
-          ∙ zeroed-later (f .store) (begun .store) (front a) (front-at-most f a good (begun .store)) (a .c .0) low
-          ∙ ap (keyAfter (f .store) (a .c)) (sym (eqb-true (a .r .0) 0 e))
+      go true e = first-due (eqb-true (a .r .0) 0 e)
       go false e = refl
 
   pub entry-made : (phase : ℕ) (bytes : List ℕ) → entryItem (storeLeft f a) (held f a) phase bytes ≡ entryDue f a phase bytes

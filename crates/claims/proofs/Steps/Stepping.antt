@@ -9,10 +9,10 @@ use Rattle.claims.specs.Account.{Fed, Account, stepOn}
 
 -- the two places that an account may step on to
 abbrev pub turned : Account → Account
-turned a = record { c = record { 0 = suc (a .c .0) }; r = record { 0 = 0 }; items = a .items; logs = a .logs; lost = a .lost }
+turned a = record { c = record { 0 = suc (a .c .0) }; r = record { 0 = 0 }; items = a .items; logs = a .logs; lost = a .lost; waiting = a .waiting }
 
 abbrev pub onward : Account → Account
-onward a = record { c = a .c; r = record { 0 = suc (a .r .0) }; items = a .items; logs = a .logs; lost = a .lost }
+onward a = record { c = a .c; r = record { 0 = suc (a .r .0) }; items = a .items; logs = a .logs; lost = a .lost; waiting = a .waiting }
 
 module _ (f : Fed) (a : Account) where
   pub step-turned : suc (a .r .0) ≡ ratchet (f .store) → stepOn f a ≡ turned a
@@ -40,3 +40,6 @@ module _ (f : Fed) (a : Account) where
 
   pub step-lost : stepOn f a .lost ≡ a .lost
   step-lost = step-cases (λ b. b .lost ≡ a .lost) (λ e. refl) (λ e. refl)
+
+  pub step-waiting : stepOn f a .waiting ≡ a .waiting
+  step-waiting = step-cases (λ b. b .waiting ≡ a .waiting) (λ e. refl) (λ e. refl)

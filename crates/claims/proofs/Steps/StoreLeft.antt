@@ -1,27 +1,20 @@
 -- The store that an account leaves is the unused one with zeros at its first chunks, and its burned chunks are those carried.
 use mathlib.Core.Path.{_≡_, refl, sym, ap, _∙_}
-use mathlib.Core.Bool.{true, false, cond}
+use mathlib.Core.Bool.{true, false}
 use mathlib.Core.Logic.{by-cases}
 use mathlib.Core.List.{List}
-use Prim.Native.Nat.{ℕ, zero, suc, _+_, _-_, _*_, _≤_, _<_}
-use native.Mathlib.Nat.{suc-mul, add-zero, add-suc, mul-le-mul-right, le-of-mul-le-mul-right, lt-of-mul-lt-mul-right}
+use Prim.Native.Nat.{ℕ, zero, suc, _+_, _-_, _≤_, _<_}
+use native.Mathlib.Nat.{add-zero, add-suc}
 use native.Mathlib.Decide.{ℕ-discrete, decLt}
 use native.Mathlib.Omega.{arith}
-use lib.Dec.{eqb, ltb}
-use lib.ListN.{length}
 use borrow.Author.Tests.{eq-eqb, ne-eqb, lt-ltb, le-ltb}
-use Rattle.scheme.specs.Store.{chunkCount, ratchet, burned}
+use Rattle.scheme.specs.Store.{chunkCount, burned}
 use Rattle.scheme.specs.Acceptable.{KeyStore, Burned}
-use Rattle.scheme.proofs.Tests.{same-ltb}
 use Rattle.scheme.proofs.Burning.{zeroed, zeroed-fields, zeroed-store, zeroed-later, zeroed-burned}
 use Rattle.scheme.proofs.Acceptance.Stores.{burned-is, unburned-is}
 use Rattle.claims.specs.Account.{Fed, Account, carried}
 use Rattle.claims.specs.Claim.{burnedUpTo, storeLeft}
-use Rattle.claims.proofs.Good.{Good}
-
--- how many chunks are burned
-abbrev pub front : Account → ℕ
-front a = cond (eqb (a .r .0) 0) (a .c .0) (suc (a .c .0))
+use Rattle.claims.proofs.Good.{Good, front}
 
 pub front-whole : (a : Account) → a .r .0 ≡ 0 → front a ≡ a .c .0
 front-whole a e = rw (eq-eqb (a .r .0) 0 e)
@@ -31,44 +24,28 @@ front-half a h = rw (ne-eqb (a .r .0) 0 (λ none. omega arith))
 
 module _ (f : Fed) (a : Account) (good : Good f a) (ok : KeyStore (f .store)) where
   pub chunk-at-most : a .c .0 ≤ chunkCount (f .store)
-  chunk-at-most = le-of-mul-le-mul-right {k = ratchet (f .store)} (omega arith) (omega arith)
+  chunk-at-most =
+      by-cases (ℕ-discrete (a .r .0) 0)
+      (λ none. omega (arith, front-whole a none, good .spent))
+      (λ some. omega (arith, front-half a (omega arith), good .spent))
 
   pub chunk-below : 0 < a .r .0 → a .c .0 < chunkCount (f .store)
-  chunk-below h = lt-of-mul-lt-mul-right (ratchet (f .store)) (omega arith)
-
-  -- the burned chunks have keys for all items, and without the last one they have not
-  pub front-keys : (length (a .items) ≤ front a * ratchet (f .store)) × (front a * ratchet (f .store) < length (a .items) + ratchet (f .store))
-  front-keys =
-      by-cases (ℕ-discrete (a .r .0) 0)
-      (λ none. rw (eq-eqb (a .r .0) 0 none) (omega arith, omega arith))
-      (λ some. rw (ne-eqb (a .r .0) 0 some, suc-mul) (omega arith, omega arith))
-
-  pub front-at-most : front a ≤ chunkCount (f .store)
-  front-at-most =
-      let below : front a < suc (chunkCount (f .store)) = lt-of-mul-lt-mul-right (ratchet (f .store)) (rw suc-mul (omega (arith, front-keys))) in
-      omega arith
-
-  pub carried-front : (x : ℕ) → carried a x ≡ ltb x (front a)
-  carried-front x =
-      let n = ratchet (f .store) in
-      good .burned x
-      ∙ same-ltb (x * n) (length (a .items)) x (front a)
-      ((λ h. lt-of-mul-lt-mul-right n (omega (arith, front-keys))), (λ h. omega (arith, suc-mul x n, mul-le-mul-right n h, front-keys)))
+  chunk-below h = omega (arith, front-half a h, good .spent)
 
   -- what goes on with each chunk that is carried ends at the front
   module _ {A : Type 0} (g h : ℕ → A) (first : g 0 ≡ h 0) (on : (n : ℕ) → carried a n ≡ true → g n ≡ h n → g (suc n) ≡ h (suc n))
       (stays : (n : ℕ) → carried a n ≡ false → g (suc n) ≡ g n) where
     fold-low : (n : ℕ) → n ≤ front a → g n ≡ h n
     fold-low zero most = first
-    fold-low (suc n) most = on n (carried-front n ∙ lt-ltb n (front a) most) (fold-low n (omega arith))
+    fold-low (suc n) most = on n (good .burned n ∙ lt-ltb n (front a) most) (fold-low n (omega arith))
 
     fold-high : (k : ℕ) → g (front a + k) ≡ h (front a)
     fold-high zero = rw add-zero (fold-low (front a) (omega arith))
-    fold-high (suc k) = rw add-suc (stays (front a + k) (carried-front (front a + k) ∙ le-ltb (front a + k) (front a) (omega arith)) ∙ fold-high k)
+    fold-high (suc k) = rw add-suc (stays (front a + k) (good .burned (front a + k) ∙ le-ltb (front a + k) (front a) (omega arith)) ∙ fold-high k)
 
     pub fold-front : g (chunkCount (f .store)) ≡ h (front a)
     fold-front =
-        let most = front-at-most in
+        let most = good .spent in
         let there : chunkCount (f .store) ≡ front a + (chunkCount (f .store) - front a) = omega arith in
         ap g there ∙ fold-high (chunkCount (f .store) - front a)
 
@@ -82,12 +59,12 @@ module _ (f : Fed) (a : Account) (good : Good f a) (ok : KeyStore (f .store)) wh
   burned-left unused x h =
       let st = f .store in
       let n = front a in
-      let store = zeroed-store st ok n front-at-most in
-      let below : x < chunkCount (zeroed st n) = omega (arith, zeroed-fields st ok n front-at-most .chunkCount) in
+      let store = zeroed-store st ok n (good .spent) in
+      let below : x < chunkCount (zeroed st n) = omega (arith, zeroed-fields st ok n (good .spent) .chunkCount) in
       ap (λ (l : List ℕ). burned l x) store-left
       ∙ by-cases (decLt x n)
-      (λ before. burned-is (zeroed st n) store x below .1 (zeroed-burned st ok n front-at-most x before) ∙ sym (lt-ltb x n before))
+      (λ before. burned-is (zeroed st n) store x below .1 (zeroed-burned st ok n (good .spent) x before) ∙ sym (lt-ltb x n before))
       (λ late.
-      let same = zeroed-later st ok n front-at-most x (omega arith) in
+      let same = zeroed-later st ok n (good .spent) x (omega arith) in
       unburned-is (zeroed st n) store x below .1 (λ is. unused x h (sym same ∙ is)) ∙ sym (le-ltb x n (omega arith)))
-      ∙ sym (carried-front x)
+      ∙ sym (good .burned x)
