@@ -11,7 +11,9 @@ use borrow.Author.Tests.{eq-eqb, ne-eqb}
 use lib.Dec.{eqb}
 use Rattle.scheme.specs.Answers.{refusalNumber, outcomeRefusal, outcomeCount}
 use Rattle.scheme.specs.Rules.{refusalBy}
-use Rattle.scheme.specs.Sealer.{Effect, Gives, opens, appends, appended, appendRules, closes, closed, closeRules, refused}
+use Rattle.scheme.specs.Acceptable.{KeyStore}
+use Rattle.scheme.specs.Items.{itemNumber}
+use Rattle.scheme.specs.Sealer.{Effect, Gives, opens, appends, appended, appendRules, closes, closed, closeRules, restarts, restarted, restartRules, refused}
 use Rattle.scheme.specs.Sizes.{mostItems}
 use Rattle.scheme.specs.Store.{chunkCount, ratchet}
 use Rattle.scheme.specs.declared.Refusal.{Refusal}
@@ -36,16 +38,28 @@ count-by : (n : ℕ) (done : Effect) (s : State) (store logs seal : List ℕ) �
 count-by n done s store logs seal small =
     by-cases (ℕ-discrete n 0) (λ none. rw (eq-eqb n 0 none) (small none)) (λ some. rw (ne-eqb n 0 some) (omega arith))
 
--- the number of an item: below that of the store's keys
+-- the number of a key is below that of the store's keys
+key-number : (store : List ℕ) → KeyStore store → (s : State) → s .chunk .0 < chunkCount store → s .offset .0 < ratchet store
+    → itemNumber (ratchet store) (s .chunk) (s .offset) ≤ mostItems
+key-number store good s below low =
+    let keys : suc (s .chunk .0) * ratchet store ≤ chunkCount store * ratchet store = mul-le-mul below (le-refl (ratchet store)) in
+    omega (arith, keys, sizes store good .items)
+
 pub appends-count : (s : State) (store logs seal : List ℕ) (phase : ℕ) (bytes : List ℕ) → appends s store logs seal phase bytes .count ≤ mostItems
 unfolding appends appended
 appends-count s store logs seal phase bytes =
     count-by (refusalBy (appendRules s store logs seal phase bytes)) (appended s store logs seal phase bytes) s store logs seal
     (λ none.
     let allowed = Allowed.append s store logs seal phase bytes none in
-    let good = allowed .good in
-    let keys : suc (s .chunk .0) * ratchet store ≤ chunkCount store * ratchet store = mul-le-mul (allowed .chunk) (le-refl (ratchet store)) in
-    omega (arith, keys, sizes store good .items, allowed .offset))
+    key-number store (allowed .good) s (allowed .chunk) (allowed .offset))
+
+pub restarts-count : (s : State) (store logs seal : List ℕ) (number : ℕ) → restarts s store logs seal number .count ≤ mostItems
+unfolding restarts restarted
+restarts-count s store logs seal number =
+    count-by (refusalBy (restartRules s store logs seal number)) (restarted s store logs seal number) s store logs seal
+    (λ none.
+    let allowed = Allowed.restart s store logs seal number none in
+    key-number store (allowed .good) s (allowed .chunk) (omega (arith, allowed .first, allowed .good .ratchetLow)))
 
 -- the number of fillers: at most one for each key of a chunk
 pub closes-count : (s : State) (store logs seal : List ℕ) → closes s store logs seal .count ≤ mostItems

@@ -4,7 +4,7 @@ use mathlib.Core.Path.{_≡_}
 use mathlib.Core.List.{List}
 use Prim.Native.Nat.{ℕ, _+_, _*_, _^_, _≤_}
 use Rattle.scheme.specs.Sizes.{mostItems}
-use Rattle.scheme.specs.Sealer.{opens, appends, closes}
+use Rattle.scheme.specs.Sealer.{opens, appends, closes, restarts}
 use Rattle.scheme.specs.declared.State.{State}
 use Rattle.packed.specs.declared.sealing.Packed.{Packed}
 
@@ -32,3 +32,11 @@ pub record Closed (s : State) (store logs seal : List ℕ) (r : Packed) (seal′
   pub fits : closes s store logs seal .count ≤ mostItems
   pub state : r .state ≡ closes s store logs seal .state
   pub seal-left : seal′ ≡ closes s store logs seal .seal
+
+-- restart only reads the logs
+pub record Restarted (s : State) (store logs seal : List ℕ) (number : ℕ) (r : Packed) (store′ seal′ : List ℕ) : Type 0 where
+  pub code : r .code ≡ packed (restarts s store logs seal number .refusal) (restarts s store logs seal number .count)
+  pub fits : restarts s store logs seal number .count ≤ mostItems
+  pub state : r .state ≡ restarts s store logs seal number .state
+  pub store-left : store′ ≡ restarts s store logs seal number .store
+  pub seal-left : seal′ ≡ restarts s store logs seal number .seal

@@ -1,4 +1,4 @@
-// Open, append, close, the audit, the lookups and the plans with an answer of one word.
+// Open, append, close, restart, the audit, the lookups and the plans with an answer of one word.
 mod answers;
 pub mod auditing;
 mod lengths;

@@ -1,8 +1,8 @@
-// Open, append and close with an answer of one word, the state by value.
+// Open, append, close and restart with an answer of one word, the state by value.
 ghost use mathlib.Core.Path.{_≡_};
 ghost use Prim.Native.Nat.{_<_, _^_};
 ghost use Rattle.scheme.specs.Answers.{outcomeRefusal, outcomeCount};
-ghost use Rattle.packed.specs.Surface.{packed, Opened, Appended, Closed};
+ghost use Rattle.packed.specs.Surface.{packed, Opened, Appended, Closed, Restarted};
 use crate::answers::code;
 use crate::answers::refused_code;
 use scheme::Outcome;
@@ -15,7 +15,7 @@ pub struct Packed {
     pub state: State,
 }
 
-// `sealer::open`, `sealer::append` and `sealer::close`: what they answer in one word, and the state and the bytes that they leave.
+// `sealer::open`, `sealer::append`, `sealer::close` and `sealer::restart`: what they answer in one word, and the state and the bytes that they leave.
 pub fn open_packed(
     store: &[u8],
     logs: &[u8],
@@ -48,6 +48,20 @@ pub fn close_packed(state: State, store: &[u8], logs: &[u8], seal: &mut [u8]) ->
     ensures { λ r. ⌜ Closed state (now (store .entry)) (now (logs .entry)) (now (seal .entry)) r (now (seal .exit)) ⌝ }
 {
     let sealed = sealer::close(state, store, logs, seal);
+    pack(sealed)
+}
+
+pub fn restart_packed(
+    state: State,
+    store: &mut [u8],
+    logs: &[u8],
+    seal: &mut [u8],
+    number: u32,
+) -> Packed
+    ensures { λ r. ⌜ Restarted state (now (store .entry)) (now (logs .entry)) (now (seal .entry)) number
+        r (now (store .exit)) (now (seal .exit)) ⌝ }
+{
+    let sealed = sealer::restart(state, store, logs, seal, number);
     pack(sealed)
 }
 

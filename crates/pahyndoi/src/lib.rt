@@ -1,7 +1,7 @@
 // What other languages call: built as a static library, declared in include/pahyndoi.h.
 ghost use mathlib.Core.Path.{_≡_};
 ghost use Rattle.pahyndoi.specs.Hash.{Hashed, Tagged};
-ghost use Rattle.packed.specs.Surface.{Opened, Appended, Closed};
+ghost use Rattle.packed.specs.Surface.{Opened, Appended, Closed, Restarted};
 ghost use Rattle.packed.specs.Audited.{Audited};
 ghost use Rattle.packed.specs.LookedUp.{LookedUp, Located};
 ghost use Rattle.packed.specs.Plans.{RatchetPlanned};
@@ -14,6 +14,7 @@ use packed::plans::least_ratchet_packed;
 use packed::sealing::append_packed;
 use packed::sealing::close_packed;
 use packed::sealing::open_packed;
+use packed::sealing::restart_packed;
 use scheme::State;
 
 // The digest of the message and 0, or 32 zeros and refusal 1 where the message is too long.
@@ -118,6 +119,25 @@ pub extern "C" fn pahyndoi_close(
 {
     let s = *state;
     let done = close_packed(s, store, logs, seal);
+    *state = done.state;
+    done.code
+}
+
+// Seals a restart item, which says that the chunk before the state's was cut after so many items, and steps the state on. A refused call alters
+// nothing.
+#[no_mangle]
+pub extern "C" fn pahyndoi_restart(
+    state: &mut State,
+    store: &mut [u8],
+    logs: &[u8],
+    seal: &mut [u8],
+    number: u32,
+) -> u64
+    ensures { λ r. ⌜ Restarted (now (state .entry)) (now (store .entry)) (now (logs .entry)) (now (seal .entry)) number
+        (record { code = r; state = now (state .exit) }) (now (store .exit)) (now (seal .exit)) ⌝ }
+{
+    let s = *state;
+    let done = restart_packed(s, store, logs, seal, number);
     *state = done.state;
     done.code
 }
