@@ -50,7 +50,8 @@ impl Error for Rejected {}
 ///
 /// For every input the answer is the one that the scheme's definition of the
 /// audit gives. Material as a controller's history of calls left it is
-/// accepted with its true count, where no chunk is half used.
+/// accepted with its true count, where no chunk is half used or every cut one is
+/// followed by its restart.
 pub fn audit(material: &Material) -> Result<u64, Rejected> {
     let Material {
         device_store,

@@ -47,6 +47,16 @@ unsafe extern "C" {
         seal: *mut u8,
         seal_memory_length: usize,
     ) -> u64;
+    fn pahyndoi_restart(
+        state: *mut State,
+        store: *mut u8,
+        store_length: usize,
+        logs: *const u8,
+        logs_length: usize,
+        seal: *mut u8,
+        seal_memory_length: usize,
+        number: u32,
+    ) -> u64;
     fn pahyndoi_audit(
         device: *const u8,
         device_length: usize,
@@ -141,8 +151,9 @@ pub fn open_raw(
     }
 }
 
-/// Seals the data and gives the call's answer: the item's number, or the
-/// refusal times 2^32; then nothing is altered.
+/// Seals the data and gives the call's answer: chunk number times N plus offset
+/// of its key, N being the ratchet, or the refusal times 2^32; then nothing is
+/// altered.
 pub fn append_raw(
     state: &mut State,
     store: &mut [u8],
@@ -183,6 +194,32 @@ pub fn close_raw(state: &mut State, store: &[u8], logs: &[u8], seal: &mut [u8]) 
             logs.len(),
             seal.as_mut_ptr(),
             seal.len(),
+        )
+    }
+}
+
+/// Seals the number of items that a cut chunk had and gives the call's answer:
+/// chunk number times N, N being the ratchet, or the refusal times 2^32; then
+/// nothing is altered.
+pub fn restart_raw(
+    state: &mut State,
+    store: &mut [u8],
+    logs: &[u8],
+    seal: &mut [u8],
+    number: u32,
+) -> u64 {
+    // SAFETY: each slice is readable for its length and no pointer is null;
+    // state, store and seal are borrowed mutably, so nothing overlaps them.
+    unsafe {
+        pahyndoi_restart(
+            state,
+            store.as_mut_ptr(),
+            store.len(),
+            logs.as_ptr(),
+            logs.len(),
+            seal.as_mut_ptr(),
+            seal.len(),
+            number,
         )
     }
 }

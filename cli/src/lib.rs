@@ -1,6 +1,6 @@
 //! The calls of the static library `pahyndoi`, each of them proved: SHA-256
 //! (FIPS 180-4), HMAC-SHA-256 whole or cut (RFC 2104), the sealing of logs
-//! ([`open`], [`append`], [`close`]), the [`audit`] of what is presented, which
+//! ([`open`], [`append`], [`close`], [`restart`]), the [`audit`] of what is presented, which
 //! item sealed a byte of it ([`item_at`], [`data_at`]), and the ratchet that a
 //! card needs ([`least_ratchet`]).
 //!
@@ -23,7 +23,7 @@ mod sealer;
 pub use auditor::{Material, Rejected, audit};
 pub use ffi::{
     State, append_raw, audit_raw, close_raw, data_at_raw, hmac_sha256_raw, item_at_raw,
-    least_ratchet_raw, open_raw, sha256_raw,
+    least_ratchet_raw, open_raw, restart_raw, sha256_raw,
 };
 pub use hash::{DIGEST_LENGTH, LENGTH_LIMIT, LONGEST_TAG, SHORTEST_TAG, hmac_sha256, sha256};
 pub use lookup::{data_at, item_at};
@@ -34,7 +34,7 @@ pub use parameters::{
 };
 pub use planning::least_ratchet;
 pub use refusal::Refusal;
-pub use sealer::{append, close, open};
+pub use sealer::{append, close, open, restart};
 
 #[cfg(doctest)]
 #[doc = include_str!("../../README.md")]
