@@ -82,6 +82,11 @@ impl Parameters {
         9 + self.tag_length as usize
     }
 
+    /// The bytes of a restart item: 13 and the tag.
+    pub const fn restart_length(&self) -> usize {
+        13 + self.tag_length as usize
+    }
+
     /// The bytes of the log memory: a log for each phase. No other length will
     /// do.
     pub const fn logs_length(&self, phases: u8) -> usize {
@@ -141,6 +146,7 @@ mod tests {
         assert_eq!(common.log_capacity as usize, in_c("LOG_SIZE"));
         assert_eq!(common.entry_length(), in_c("ENTRY_SIZE"));
         assert_eq!(common.filler_length(), in_c("FILLER_SIZE"));
+        assert_eq!(common.restart_length(), in_c("RESTART_SIZE"));
     }
 
     #[test]
@@ -206,6 +212,7 @@ mod tests {
             let set = in_the_model(parameters);
             assert_eq!(parameters.entry_length(), set.entry_length());
             assert_eq!(parameters.filler_length(), set.filler_length());
+            assert_eq!(parameters.restart_length(), set.restart_length());
             for own_set in [None, Some(set)] {
                 compare_with_header(own_set);
             }

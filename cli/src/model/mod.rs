@@ -4,6 +4,7 @@
 mod account;
 mod audit;
 mod bytes;
+mod claim;
 mod item;
 mod key;
 mod lookup;
@@ -15,13 +16,14 @@ mod tag;
 #[cfg(test)]
 mod tests;
 
-pub use account::{Account, Call, is_history};
+pub use account::{Account, Call, Event, is_history};
 pub use audit::{Presented, audit, audit_packed, log_lengths};
-pub use item::{Head, Item};
+pub use claim::{Outcome, outcomes};
+pub use item::{Head, Item, items};
 pub use key::{Position, key_at, next_key, position, ratchet_head};
 pub use lookup::Audited;
 pub use planning::{chunks_needed, least_ratchet};
-pub use sealing::{State, append, close, open};
+pub use sealing::{State, append, close, open, restart};
 pub use store::{Header, Set, burned_at_front, chunk, is_burned};
 pub use tag::hmac_sha256;
 
@@ -47,6 +49,9 @@ pub const ENTRY_LENGTH: usize = Set::COMMON.entry_length();
 
 /// The bytes of a filler item, with a store of kind 1.
 pub const FILLER_LENGTH: usize = Set::COMMON.filler_length();
+
+/// The bytes of a restart item, with a store of kind 1.
+pub const RESTART_LENGTH: usize = Set::COMMON.restart_length();
 
 /// HMAC-SHA-256 of a message given in parts, under the key given first.
 pub type Hmac = fn(&[u8], &[&[u8]]) -> [u8; HMAC_LENGTH];

@@ -26,3 +26,4 @@ pub(super) const LOG_UNCOVERED: u32 = 23;
 pub(super) const NO_SUCH_BYTE: u32 = 24;
 pub(super) const BAD_PLAN: u32 = 25;
 pub(super) const BAD_TAG_LENGTH: u32 = 26;
+pub(super) const BAD_RESTART: u32 = 27;

@@ -5,6 +5,7 @@ mod audit;
 mod history;
 mod lookup;
 mod planning;
+mod restarts;
 mod rows;
 mod sealing;
 mod set;
@@ -93,6 +94,18 @@ impl Device {
         let before = self.clone();
         let answer = close(plain_hmac, &mut self.material, &mut self.state);
         self.assert_unchanged_if_refused(answer, &before)
+    }
+
+    /// The refusal and the count. Fails where a refused call changed a byte.
+    fn restart(&mut self, number: u32) -> (u32, u32) {
+        let before = self.clone();
+        let answer = restart(plain_hmac, &mut self.material, &mut self.state, number);
+        self.assert_unchanged_if_refused(answer, &before)
+    }
+
+    /// The power is lost.
+    fn cut(&mut self) {
+        self.state = State::default();
     }
 
     fn assert_unchanged_if_refused(&self, answer: Answer, before: &Device) -> (u32, u32) {

@@ -34,7 +34,7 @@ fn assert_head(head: Head, bytes: &[u8]) {
 #[test]
 fn position_of_item_7() {
     assert_eq!(position(7, 3), ITEM_7);
-    assert_eq!(ITEM_7.item_number(3), 7);
+    assert_eq!(ITEM_7.key_number(3), 7);
     assert_eq!(ITEM_7.next(3), ITEM_8);
     assert_eq!(
         ITEM_8.next(3),
@@ -43,6 +43,7 @@ fn position_of_item_7() {
             offset: 0
         }
     );
+    assert_eq!(ITEM_7.next_chunk(), ITEM_8.next(3));
 }
 
 #[test]
@@ -61,6 +62,20 @@ fn bytes_of_an_entry() {
 fn bytes_of_a_filler() {
     let head = Head::Filler { position: ITEM_8 };
     assert_head(head, &[3, 2, 0, 0, 0, 2, 0, 0, 0]);
+}
+
+/// Behind a chunk that was cut with two items.
+const RESTART: Head = Head::Restart {
+    position: Position {
+        chunk: 7,
+        offset: 0,
+    },
+    number: 2,
+};
+
+#[test]
+fn bytes_of_a_restart() {
+    assert_head(RESTART, &[5, 7, 0, 0, 0, 0, 0, 0, 0, 2, 0, 0, 0]);
 }
 
 /// An id of zeros, and another.
@@ -93,13 +108,14 @@ fn tags_of_items() {
         position: ITEM_7,
     };
     let filler = Head::Filler { position: ITEM_8 };
-    let messages: [(Head, &[u8], &[u8]); 2] = [
+    let messages: [(Head, &[u8], &[u8]); 3] = [
         (
             entry,
             b"abc",
             b"\x02\x02\x05\0\0\0\x03\0\0\0\x02\0\0\0\x01\0\0\0abc",
         ),
         (filler, b"", b"\x03\x02\0\0\0\x02\0\0\0"),
+        (RESTART, b"", b"\x05\x07\0\0\0\0\0\0\0\x02\0\0\0"),
     ];
     let key = [7; KEY_LENGTH];
     for id in IDS {
