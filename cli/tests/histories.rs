@@ -1,5 +1,5 @@
-//! The library's open, append, close, audit, lookups and plans compared with
-//! the model's on random cases: answers, states and every byte.
+//! The library's open, append, close, restart, audit, lookups and plans compared
+//! with the model's on random cases: answers, states and every byte.
 //! `PAHYNDOI_SEED` and `PAHYNDOI_CASES` choose other cases than the usual ones.
 
 #[path = "histories/accounts.rs"]
@@ -93,6 +93,7 @@ fn calls_are_those_of_the_model() {
         tallies.assert_all_met("open", &[0, 2, 3, 4, 5, 6], 100);
         tallies.assert_all_met("append", &[0, 2, 3, 6, 7, 8, 9, 10, 11], 100);
         tallies.assert_all_met("close", &[0, 2, 3, 6, 10], 100);
+        tallies.assert_all_met("restart", &[0, 2, 3, 6, 10, 11, 27], 100);
         tallies.of_kind_6.assert_all_tags(100);
         for reached in edges::REACHED {
             tallies.assert_more(reached, 3);
@@ -141,8 +142,12 @@ fn histories_are_those_of_their_account() {
         tallies.assert_all_met("open", &[0, 5, 6], 50);
         tallies.assert_all_met("append", &[0, 6, 7, 8, 9, 10, 11], 50);
         tallies.assert_all_met("close", &[0, 6, 10], 50);
+        tallies.assert_all_met("restart", &[0, 6, 10, 11, 27], 50);
         tallies.assert_all_met("audit", &[0, 22], 50);
         tallies.assert_all_met("lookup", &[0, 22, 24], 50);
+        for counted in accounts::CUTS {
+            tallies.assert_more(counted, 50);
+        }
     }
 }
 

@@ -1,49 +1,81 @@
 //! Whole histories: the library's calls beside the account that is told from
-//! the calls alone, then the audit of what they left.
+//! calls and cuts alone, then the audit of what they left.
 
-use pahyndoi::model::{Account, Call, Material, Set, State, is_history, plain_hmac};
+use pahyndoi::model::{
+    Account, Call, Event, Head, Item, Material, Set, State, is_history, plain_hmac,
+};
 
 use crate::answer::split;
 use crate::calls::{self, assert_same_material};
 use crate::device::{Device, Shape};
+use crate::honest;
 use crate::lent::Stand;
 use crate::library;
 use crate::presentation::Presentation;
 use crate::random::{Case, Random};
+use crate::requests::random_number;
 use crate::tally::Tally;
 
+pub const CUT_UNUSED: &str = "cuts before the first item";
+pub const CUT_BETWEEN: &str = "cuts between two chunks";
+pub const CUT_HALF_WAY: &str = "cuts half way through a chunk";
+pub const CUT_AGAIN: &str = "cuts while a chunk waits";
+pub const RESTARTED: &str = "accepted with restarts";
+pub const WAITING: &str = "refused with a chunk that waits";
+pub const CUTS: [&str; 6] = [
+    CUT_UNUSED,
+    CUT_BETWEEN,
+    CUT_HALF_WAY,
+    CUT_AGAIN,
+    RESTARTED,
+    WAITING,
+];
+
 /// A device that the library's calls alone bring on, and its account.
-struct Recorded {
-    start: Material,
-    set: Set,
-    ratchet: usize,
-    device: Device,
-    account: Account,
-    calls: Vec<Call>,
+pub struct Recorded {
+    pub start: Material,
+    pub set: Set,
+    pub device: Device,
+    pub account: Account,
+    events: Vec<Event>,
     /// The data length of most appends.
     usual_length: usize,
 }
 
-/// Makes and checks a history, closes it and audits what it left.
-pub fn check_history(case: &mut Case, tally: &mut Tally) {
+/// Makes and checks a history, mostly brings it to an end and audits what it
+/// left.
+pub fn check_history(case: &mut Case, tally: &mut Tally) -> Recorded {
     let mut recorded = Recorded::new(&mut case.random, case.own_set);
-    for number in 0..case.random.up_to(60) {
-        let call = recorded.random_call(&mut case.random);
-        case.step = format!("history, call {number}: {}", calls::describe(&call));
-        tally.note(calls::name(&call), recorded.make(call));
+    for number in 0..case.random.up_to(70) {
+        let event = recorded.random_event(&mut case.random);
+        case.step = format!("history, event {number}: {}", describe(&event));
+        recorded.make(event, tally);
     }
     case.step = "end of the history".to_string();
-    recorded.make(recorded.honest_open());
-    recorded.make(Call::Close);
-    let Recorded { start, calls, .. } = &recorded;
-    assert!(is_history(plain_hmac, start, calls), "not a history");
+    if !case.random.once_in(6) {
+        recorded.finish(tally);
+    }
+    let Recorded { start, events, .. } = &recorded;
+    assert!(is_history(plain_hmac, start, events), "not a history");
     recorded.audit(&mut case.random, tally);
+    recorded
+}
+
+fn describe(event: &Event) -> String {
+    match event {
+        Event::Cut => "cut".to_string(),
+        Event::Call(call) => calls::describe(call),
+    }
 }
 
 /// Short data, or as long as allowed.
 fn usual_length(random: &mut Random, set: Set) -> usize {
     let longest = set.data_limit as usize;
     random.pick(&[5, 20, longest]).min(longest)
+}
+
+fn is_restart(item: &Item) -> bool {
+    matches!(item.head, Head::Restart { .. })
 }
 
 impl Recorded {
@@ -67,25 +99,71 @@ impl Recorded {
                 state: State::default(),
             },
             set: shape.set(),
-            ratchet: shape.ratchet,
             start,
-            calls: Vec::new(),
+            events: Vec::new(),
             usual_length: usual_length(random, shape.set()),
         }
     }
 
-    fn is_half_way(&self) -> bool {
-        self.account.items().len() % self.ratchet != 0
+    /// An event that a history may go on with.
+    fn random_event(&self, random: &mut Random) -> Event {
+        let event = match random.once_in(20) {
+            true => Event::Cut,
+            false => Event::Call(self.random_call(random)),
+        };
+        match self.account.allows(&event) {
+            true => event,
+            false => self.honest_step(),
+        }
     }
 
-    /// A call that a history may go on with.
     fn random_call(&self, random: &mut Random) -> Call {
-        match random.up_to(19) {
+        let half_used = self.account.is_half_used();
+        match random.up_to(22) {
             0..=14 => self.random_append(random),
-            15 if !self.is_half_way() || random.once_in(4) => self.refused_open(random),
+            15 if !half_used || random.once_in(4) => self.refused_open(random),
             16 => Call::Close,
-            _ => self.honest_open(),
+            17 | 18 => self.random_restart(random),
+            _ => match self.honest_step() {
+                Event::Call(call) => call,
+                Event::Cut => Call::Close,
+            },
         }
+    }
+
+    /// The next event on the way to the end of a chunk, or an open there. Where
+    /// a refused open took the state half way, only a cut leads on.
+    fn honest_step(&self) -> Event {
+        let lost = self.account.is_state_lost();
+        let offset = self.account.position().offset;
+        let number = self.account.waiting();
+        Event::Call(match (offset, lost) {
+            (1.., true) => return Event::Cut,
+            (1.., false) => Call::Close,
+            (0, false) if number > 0 => Call::Restart { number },
+            (0, _) => honest::reopen(&self.account),
+        })
+    }
+
+    /// Cut, open, restart and close, as far as they are due.
+    fn finish(&mut self, tally: &mut Tally) {
+        for _ in 0..4 {
+            self.make(self.honest_step(), tally);
+        }
+        self.make(Event::Call(Call::Close), tally);
+    }
+
+    /// With the number of the chunk that waits, where one does, or with another.
+    fn random_restart(&self, random: &mut Random) -> Call {
+        let number = match random.once_in(2) {
+            true => self.account.waiting(),
+            false => random_number(random, self.ratchet()),
+        };
+        Call::Restart { number }
+    }
+
+    fn ratchet(&self) -> u32 {
+        self.device.header().expect("a store").ratchet
     }
 
     fn random_append(&self, random: &mut Random) -> Call {
@@ -106,17 +184,6 @@ impl Recorded {
         }
     }
 
-    /// With the lengths reached; a close where a chunk is half used.
-    fn honest_open(&self) -> Call {
-        match self.is_half_way() {
-            true => Call::Close,
-            false => Call::Open {
-                log_lengths: self.account.log_lengths(),
-                seal_length: self.account.seal_length(),
-            },
-        }
-    }
-
     fn refused_open(&self, random: &mut Random) -> Call {
         let mut log_lengths = self.account.log_lengths();
         let mut seal_length = self.account.seal_length();
@@ -132,16 +199,37 @@ impl Recorded {
         }
     }
 
-    /// The packed answer. Fails where it, or a byte, is not the account's.
-    fn make(&mut self, call: Call) -> u64 {
-        let (answer, after) = library::perform(Stand::Shifted(0), &self.device, &call);
-        let expected = self.account.call(plain_hmac, &call);
+    /// Fails where a call's answer, or a byte, is not the account's.
+    fn make(&mut self, event: Event, tally: &mut Tally) {
+        match &event {
+            Event::Cut => self.cut(tally),
+            Event::Call(call) => self.call(call, tally),
+        }
+        assert_same_material(&self.device.material, &self.account.material());
+        self.events.push(event);
+    }
+
+    fn call(&mut self, call: &Call, tally: &mut Tally) {
+        let (answer, after) = library::perform(Stand::Shifted(0), &self.device, call);
+        let expected = self.account.call(plain_hmac, call);
         let expected = (expected.refusal, expected.number);
         assert_eq!(split(answer), expected, "answers: ours, account's");
-        assert_same_material(&after.material, &self.account.material());
         self.device = after;
-        self.calls.push(call);
-        answer
+        tally.note(calls::name(call), answer);
+    }
+
+    /// The power is lost between two calls.
+    fn cut(&mut self, tally: &mut Tally) {
+        let account = &self.account;
+        let counted = match account.position().offset {
+            1.. => CUT_HALF_WAY,
+            0 if account.waiting() > 0 => CUT_AGAIN,
+            0 if account.items().is_empty() => CUT_UNUSED,
+            0 => CUT_BETWEEN,
+        };
+        tally.count(counted, 1);
+        self.account.cut();
+        self.device.state = State::default();
     }
 
     /// Untouched material is accepted with the true count, but for a chunk
@@ -154,10 +242,14 @@ impl Recorded {
             self.account.seal_length(),
         );
         let answer = presentation.compare(random, tally);
-        let expected = match self.is_half_way() {
+        let expected = match self.account.is_half_used() {
             true => (22, 0),
             false => (0, self.account.items().len() as u32),
         };
         assert_eq!(split(answer), expected, "audit of untouched material");
+        if expected.0 == 0 && self.account.items().iter().any(is_restart) {
+            tally.count(RESTARTED, 1);
+        }
+        tally.count(WAITING, usize::from(self.account.waiting() > 0));
     }
 }

@@ -13,8 +13,8 @@ use crate::tally::Tally;
 /// The phases of the entries, and their lengths where the set allows them.
 const ENTRIES: [(u8, usize); 3] = [(1, 5), (2, 3), (1, 2)];
 
-/// With a filler behind them.
-const ITEMS: u32 = 4;
+/// With a restart behind them and a filler behind that.
+const ITEMS: u32 = 5;
 
 /// A part of the material by name.
 type Part = (&'static str, fn(&mut Presentation) -> &mut Vec<u8>);
@@ -62,15 +62,15 @@ fn all_places(set: Set) -> Vec<Place> {
         .collect()
 }
 
-/// Two phases, three chunks, N = 2: three entries and a filler. With the log
-/// lengths.
+/// Two phases, four chunks, N = 2: three entries, a restart and a filler. With
+/// the log lengths.
 fn small_material(random: &mut Random, own_set: Option<Set>) -> (Presentation, Vec<u32>) {
     let shape = Shape {
         own_set,
         phases: 2,
-        chunk_count: 3,
+        chunk_count: 4,
         ratchet: 2,
-        seal_memory: 200,
+        seal_memory: 300,
     };
     let start = shape.material(random);
     let mut account = Account::start(&start).expect("an unused store");
@@ -78,6 +78,9 @@ fn small_material(random: &mut Random, own_set: Option<Set>) -> (Presentation, V
         let data = random.bytes(length.min(shape.set().data_limit as usize));
         account.call(plain_hmac, &Call::Append { phase, data });
     }
+    account.cut();
+    account.call(plain_hmac, &honest::reopen(&account));
+    account.call(plain_hmac, &Call::Restart { number: 1 });
     account.call(plain_hmac, &Call::Close);
     let honest = honest::of_account(&start, shape.set(), &account);
     (honest.presentation, account.log_lengths())

@@ -12,6 +12,7 @@ pub fn name(call: &Call) -> &'static str {
         Call::Open { .. } => "open",
         Call::Append { .. } => "append",
         Call::Close => "close",
+        Call::Restart { .. } => "restart",
     }
 }
 
@@ -38,9 +39,9 @@ pub fn compare(stand: Stand, device: &mut Device, call: &Call) -> u64 {
     answer
 }
 
-/// Whether the call has sealed an entry.
+/// Whether the call has sealed an entry or a restart.
 pub fn has_sealed(call: &Call, answer: u64) -> bool {
-    matches!(call, Call::Append { .. }) && split(answer).0 == 0
+    matches!(call, Call::Append { .. } | Call::Restart { .. }) && split(answer).0 == 0
 }
 
 /// Whether a refused open has left a state of zeros.
@@ -65,6 +66,10 @@ fn by_model(device: &mut Device, call: &Call) -> u64 {
         }
         Call::Close => {
             let answer = model::close(model::plain_hmac, material, state);
+            (answer.refusal, answer.number)
+        }
+        Call::Restart { number } => {
+            let answer = model::restart(model::plain_hmac, material, state, *number);
             (answer.refusal, answer.number)
         }
     };

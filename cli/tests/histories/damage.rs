@@ -204,8 +204,13 @@ fn damage_lengths(random: &mut Random, set: Set, bytes: &mut Vec<u8>) {
 fn cut_seal_file(random: &mut Random, set: Set, presentation: &mut Presentation, items: &[Item]) {
     let kept = &items[..random.up_to(items.len())];
     let start: usize = kept.iter().map(Item::byte_count).sum();
-    let (entry, filler) = (set.entry_length(), set.filler_length());
-    let more = [1, 8, 9, 17, 18, filler - 1, filler, filler + 1, entry - 1];
+    let lengths = [
+        set.entry_length(),
+        set.filler_length(),
+        set.restart_length(),
+    ];
+    let whole = random.pick(&lengths);
+    let more = [1, 8, 9, 12, 13, 17, 18, whole - 1, whole, whole + 1];
     let length = match random.up_to(3) {
         0 | 1 => start,
         2 => start + random.pick(&more),
@@ -229,7 +234,7 @@ fn lengthen_seal_file(
         _ => items[random.index(items.len())].to_bytes(),
     };
     if random.once_in(2) {
-        bytes[0] = random.pick(&[2, 3]);
+        bytes[0] = random.pick(&[2, 3, 5]);
     }
     presentation.seal_file.extend(bytes);
 }

@@ -2,7 +2,7 @@
 
 use std::ops::Range;
 
-use pahyndoi::model::{Header, KEY_LENGTH, Material, Position, Set, State};
+use pahyndoi::model::{Header, KEY_LENGTH, Material, Position, Set, State, is_burned};
 
 use crate::random::Random;
 use crate::sets::in_effect;
@@ -166,6 +166,13 @@ impl Device {
             0 => 0,
             offset => ratchet.saturating_sub(offset) as usize,
         }
+    }
+
+    /// Whether a chunk of a whole store is burned.
+    pub fn has_burned_chunk(&self) -> bool {
+        let store = &self.material.store;
+        let mut chunks = store[header_length(store)..].chunks(KEY_LENGTH);
+        chunks.any(is_burned)
     }
 
     /// Whether neither refusal 2 nor 3 holds.

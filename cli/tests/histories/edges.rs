@@ -1,13 +1,13 @@
 //! Calls that came to an edge of what their set allows, on either side of it.
 
-use pahyndoi::model::{Call, Set};
+use pahyndoi::model::{Call, Header, Set};
 
 use crate::answer::split;
 use crate::device::Device;
 use crate::tally::Tally;
 
 /// What is counted, for a call that did its work and for a refused one.
-pub const REACHED: [&str; 10] = [
+pub const REACHED: [&str; 16] = [
     "log length as large as allowed",
     "log length one too large",
     "data as long as allowed",
@@ -18,6 +18,12 @@ pub const REACHED: [&str; 10] = [
     "entry one byte too long for it",
     "fillers to the end of the seal memory",
     "fillers one byte too long for it",
+    "restart to the end of the seal memory",
+    "restart one byte too long for it",
+    "restart with the least number",
+    "restart with a number one too small",
+    "restart with the largest number",
+    "restart with a number one too large",
 ];
 
 /// What is counted if the call is refused by this rule, 0 if it is not refused.
@@ -32,6 +38,7 @@ pub fn of(device: &Device, call: &Call) -> Vec<Edge> {
             of_append(device, header.set(), *phase, data.len())
         }
         (Some(header), Call::Close) => of_close(device, header.set()),
+        (Some(header), Call::Restart { number }) => of_restart(device, &header, *number),
     }
 }
 
@@ -63,8 +70,24 @@ fn of_append(device: &Device, set: Set, phase: u8, length: usize) -> Vec<Edge> {
 fn of_close(device: &Device, set: Set) -> Vec<Edge> {
     match device.fillers_due() {
         0 => Vec::new(),
-        fillers => of_seal_memory(device, fillers * set.filler_length(), &REACHED[8..]),
+        fillers => of_seal_memory(device, fillers * set.filler_length(), &REACHED[8..10]),
     }
+}
+
+/// By its number alone where nothing else refuses it by 27.
+fn of_restart(device: &Device, header: &Header, number: u32) -> Vec<Edge> {
+    let mut edges = of_seal_memory(device, header.set().restart_length(), &REACHED[10..12]);
+    let by_number = [
+        (1, (0, REACHED[12])),
+        (0, (27, REACHED[13])),
+        (header.ratchet - 1, (0, REACHED[14])),
+        (header.ratchet, (27, REACHED[15])),
+    ];
+    if device.state.position.offset == 0 && device.has_burned_chunk() {
+        let reached = by_number.into_iter().filter(|(edge, _)| *edge == number);
+        edges.extend(reached.map(|(_, edge)| edge));
+    }
+    edges
 }
 
 fn of_seal_memory(device: &Device, length: usize, names: &[&'static str]) -> Vec<Edge> {

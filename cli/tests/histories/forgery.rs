@@ -26,28 +26,41 @@ pub fn random_forgery(random: &mut Random, own_set: Option<Set>) -> Presentation
     forge(random, own_set, &lengths, areas)
 }
 
-/// Seals the areas, filled up to whole chunks; now and then the items are too
-/// many or too few, one has another place, or tags have another length.
+/// Seals the areas, filled up to whole chunks, often with restarts among them;
+/// now and then the items are too many or too few, one has another place, a
+/// restart is not as it should be, or tags have another length.
 fn forge(
     random: &mut Random,
     own_set: Option<Set>,
     lengths: &[u32],
-    mut areas: Vec<Option<Area>>,
+    areas: Vec<Option<Area>>,
 ) -> Presentation {
     let ratchet = match random.once_in(40) {
         true => 256,
         false => random.pick(&[1, 1, 2, 3, 5, 16]),
     };
-    let mut burned = areas.len().div_ceil(ratchet);
-    areas.resize(burned * ratchet, None);
-    alter_count(random, &mut areas, &mut burned);
-    let mut heads = heads(&areas, ratchet as u32);
+    let between = random.pick(&[1, 2, 4, 10]);
+    let mut heads = match random.once_in(2) {
+        true => heads_with_restarts(&areas, ratchet as u32, |_| random.once_in(between)),
+        false => heads_with_restarts(&areas, ratchet as u32, |_| false),
+    };
+    let mut burned = heads.last().map_or(0, chunks_up_to);
+    alter_count(random, &mut heads, &mut burned, ratchet as u32);
     let shape = shape(random, own_set, burned, ratchet, lengths);
-    let claimed = alter_position(random, &mut heads, &shape);
+    alter_restart(random, &mut heads, ratchet as u32);
+    let mut places: Vec<Position> = heads.iter().map(Head::position).collect();
+    if alter_position(random, &mut heads, &shape) {
+        places = heads.iter().map(Head::position).collect();
+    }
     let forger = Forger::new(&shape.material(random), burned, lengths, Rules::RIGHT);
-    let mut items = forger.seal_all(&heads, claimed);
+    let mut items = forger.seal_all(&heads, &places);
     alter_tags(random, shape.set(), &mut items);
     forger.present(&items)
+}
+
+/// How many chunks are used up to this item.
+fn chunks_up_to(head: &Head) -> usize {
+    head.position().chunk as usize + 1
 }
 
 /// Seals the areas in their places, each chunk for one item.
@@ -70,7 +83,8 @@ pub fn seal_with_tags(
     tags: &[usize],
 ) -> Presentation {
     let shape = shape(random, own_set, areas.len(), 1, lengths);
-    seal_by(&shape.material(random), lengths, areas, tags, Rules::RIGHT)
+    let heads = heads(areas, 1);
+    seal_by(&shape.material(random), lengths, &heads, tags, Rules::RIGHT)
 }
 
 /// So many chunks that the areas fill them with fillers behind.
@@ -92,6 +106,28 @@ pub fn filled_up(
     (shape, areas)
 }
 
+/// The same as heads, with restarts where they are wanted. There is at least one
+/// filler.
+pub fn filled_up_with_restarts(
+    own_set: Option<Set>,
+    ratchet: usize,
+    phases: usize,
+    areas: &[Option<Area>],
+    wanted: impl FnMut(Position) -> bool,
+) -> (Shape, Vec<Head>) {
+    let filler = [None];
+    let areas = if areas.is_empty() { &filler } else { areas };
+    let heads = heads_with_restarts(areas, ratchet as u32, wanted);
+    let shape = Shape {
+        own_set,
+        phases,
+        chunk_count: heads.last().map_or(1, chunks_up_to),
+        ratchet,
+        seal_memory: 0,
+    };
+    (shape, heads)
+}
+
 /// Seals the areas in their places under the keys of an unused store, by these
 /// rules.
 pub fn seal(
@@ -101,22 +137,34 @@ pub fn seal(
     areas: &[Option<Area>],
     rules: Rules,
 ) -> Presentation {
-    let tags = vec![usize::from(set.tag_length); areas.len()];
-    seal_by(unused, lengths, areas, &tags, rules)
+    let ratchet = Header::parse(&unused.store).expect("a store").ratchet;
+    seal_heads(unused, set, lengths, &heads(areas, ratchet), rules)
+}
+
+/// The same of heads in the places that they name. The chunks up to the last one
+/// are burned.
+pub fn seal_heads(
+    unused: &Material,
+    set: Set,
+    lengths: &[u32],
+    heads: &[Head],
+    rules: Rules,
+) -> Presentation {
+    let tags = vec![usize::from(set.tag_length); heads.len()];
+    seal_by(unused, lengths, heads, &tags, rules)
 }
 
 /// The same with a tag length for each item.
 fn seal_by(
     unused: &Material,
     lengths: &[u32],
-    areas: &[Option<Area>],
+    heads: &[Head],
     tags: &[usize],
     rules: Rules,
 ) -> Presentation {
-    let ratchet = Header::parse(&unused.store).expect("a store").ratchet;
-    let burned = areas.len().div_ceil(ratchet as usize);
+    let burned = heads.last().map_or(0, chunks_up_to);
     let forger = Forger::new(unused, burned, lengths, rules);
-    let mut items = forger.seal_all(&heads(areas, ratchet), false);
+    let mut items = forger.seal_in_place(heads);
     cut_tags(&mut items, tags);
     forger.present(&items)
 }
@@ -161,20 +209,26 @@ fn cut_tags(items: &mut [Item], lengths: &[usize]) {
     }
 }
 
-fn alter_count(random: &mut Random, areas: &mut Vec<Option<Area>>, burned: &mut usize) {
+fn alter_count(random: &mut Random, heads: &mut Vec<Head>, burned: &mut usize, ratchet: u32) {
     match random.up_to(19) {
-        0 => areas.push(None),
-        1 => drop(areas.pop()),
+        0 => heads.push(head(None, due_behind(heads, ratchet))),
+        1 => drop(heads.pop()),
         2 => *burned += 1,
         3 => *burned = burned.saturating_sub(1),
-        4 => areas.truncate(random.up_to(areas.len())),
+        4 => heads.truncate(random.up_to(heads.len())),
         _ => (),
     }
 }
 
+/// Each in the place of its number, as where no restart stands.
 fn heads(areas: &[Option<Area>], ratchet: u32) -> Vec<Head> {
     let places = (0..).map(|number| position(number, ratchet));
-    let head = |(area, position): (&Option<Area>, Position)| match *area {
+    let head = |(area, position): (&Option<Area>, Position)| head(*area, position);
+    areas.iter().zip(places).map(head).collect()
+}
+
+fn head(area: Option<Area>, position: Position) -> Head {
+    match area {
         None => Head::Filler { position },
         Some((phase, offset, length)) => Head::Entry {
             phase,
@@ -182,8 +236,81 @@ fn heads(areas: &[Option<Area>], ratchet: u32) -> Vec<Head> {
             length,
             position,
         },
+    }
+}
+
+/// Where an entry or a filler is due behind these.
+pub fn due_behind(heads: &[Head], ratchet: u32) -> Position {
+    let last = heads.last().map(Head::position);
+    last.map_or(Position::default(), |place| place.next(ratchet))
+}
+
+/// The restart that may stand where this is due, in the middle of a chunk.
+pub fn restart_at(due: Position) -> Head {
+    Head::Restart {
+        position: due.next_chunk(),
+        number: due.offset,
+    }
+}
+
+/// Each where it is due, with a restart before it where one may stand and is
+/// wanted; then fillers to the end of the chunk.
+pub fn heads_with_restarts(
+    areas: &[Option<Area>],
+    ratchet: u32,
+    mut wanted: impl FnMut(Position) -> bool,
+) -> Vec<Head> {
+    let mut heads = Vec::new();
+    for area in areas {
+        let due = due_behind(&heads, ratchet);
+        if due.offset > 0 && wanted(due) {
+            heads.push(restart_at(due));
+        }
+        heads.push(head(*area, due_behind(&heads, ratchet)));
+    }
+    while due_behind(&heads, ratchet).offset > 0 {
+        heads.push(head(None, due_behind(&heads, ratchet)));
+    }
+    heads
+}
+
+/// Now and then alters a restart, makes one of another item, leaves one out or
+/// puts one in, all others staying where they are.
+fn alter_restart(random: &mut Random, heads: &mut Vec<Head>, ratchet: u32) {
+    if heads.is_empty() || !random.once_in(6) {
+        return;
+    }
+    let restarts: Vec<usize> = (0..heads.len())
+        .filter(|number| matches!(heads[*number], Head::Restart { .. }))
+        .collect();
+    let any = random.index(heads.len());
+    let due = due_behind(&heads[..any], ratchet);
+    match random.up_to(5) {
+        0 | 1 if !restarts.is_empty() => {
+            let restart = random.pick(&restarts);
+            heads[restart] = with_other_number(random, heads[restart], ratchet);
+        }
+        2 if !restarts.is_empty() => drop(heads.remove(random.pick(&restarts))),
+        3 => heads.insert(any, restart_at(due)),
+        4 => heads[any] = restart_at(due),
+        _ => {
+            let (position, number) = (due, random.up_to(ratchet as usize) as u32);
+            heads[any] = Head::Restart { position, number };
+        }
+    }
+}
+
+fn with_other_number(random: &mut Random, head: Head, ratchet: u32) -> Head {
+    let Head::Restart { position, number } = head else {
+        return head;
     };
-    areas.iter().zip(places).map(head).collect()
+    let number = match random.up_to(3) {
+        0 => number.wrapping_sub(1),
+        1 => number + 1,
+        2 => random.pick(&[0, 1, ratchet - 1, ratchet, u32::MAX]),
+        _ => number | (1 << random.between(8, 31)),
+    };
+    Head::Restart { position, number }
 }
 
 /// Now and then gives one item another place: a neighbour's, its own with both
@@ -195,7 +322,8 @@ fn alter_position(random: &mut Random, heads: &mut [Head], shape: &Shape) -> boo
     }
     let ratchet = shape.ratchet as u32;
     let head = random.index(heads.len());
-    let (Head::Entry { position, .. } | Head::Filler { position }) = &mut heads[head];
+    let (Head::Entry { position, .. } | Head::Filler { position } | Head::Restart { position, .. }) =
+        &mut heads[head];
     let Position { chunk, offset } = *position;
     *position = match random.up_to(5) {
         0 => position.next(ratchet),
@@ -223,16 +351,16 @@ fn alter_position(random: &mut Random, heads: &mut [Head], shape: &Shape) -> boo
     random.once_in(2)
 }
 
-struct Forger {
+pub struct Forger {
     rules: Rules,
     presentation: Presentation,
-    /// The key of each number that the store has one for.
+    /// All keys of the store, one chunk behind the other.
     keys: Vec<[u8; KEY_LENGTH]>,
     header: Header,
 }
 
 impl Forger {
-    fn new(unused: &Material, burned: usize, lengths: &[u32], rules: Rules) -> Forger {
+    pub fn new(unused: &Material, burned: usize, lengths: &[u32], rules: Rules) -> Forger {
         let header = Header::parse(&unused.store).expect("a store");
         let mut device_store = unused.store.clone();
         front(&mut device_store, burned.min(header.chunk_count as usize)).fill(0);
@@ -250,15 +378,20 @@ impl Forger {
         }
     }
 
-    /// Each item under the key of its number, or of the place it claims, with
-    /// its whole tag.
-    fn seal_all(&self, heads: &[Head], claimed: bool) -> Vec<Item> {
+    /// Each item under the key of the place that it names, with its whole tag.
+    pub fn seal_in_place(&self, heads: &[Head]) -> Vec<Item> {
+        let places: Vec<Position> = heads.iter().map(Head::position).collect();
+        self.seal_all(heads, &places)
+    }
+
+    /// Each item under the key of a place, with its whole tag; under zeros where
+    /// the store has no such key.
+    fn seal_all(&self, heads: &[Head], places: &[Position]) -> Vec<Item> {
         let ratchet = self.header.ratchet;
-        let seal = |(number, head): (usize, &Head)| {
-            let place = head.position();
-            let index = match claimed && place.offset < ratchet && place.chunk < 1024 {
-                true => place.item_number(ratchet) as usize,
-                false => number,
+        let seal = |(head, place): (&Head, &Position)| {
+            let index = match place.offset < ratchet && place.chunk < self.header.chunk_count {
+                true => place.key_number(ratchet) as usize,
+                false => self.keys.len(),
             };
             let key = self.keys.get(index).unwrap_or(&[0; KEY_LENGTH]);
             let message = self.rules.items;
@@ -268,10 +401,10 @@ impl Forger {
                 tag: tag.to_vec(),
             }
         };
-        heads.iter().enumerate().map(seal).collect()
+        heads.iter().zip(places).map(seal).collect()
     }
 
-    fn present(mut self, items: &[Item]) -> Presentation {
+    pub fn present(mut self, items: &[Item]) -> Presentation {
         self.presentation.seal_file = items.iter().flat_map(Item::to_bytes).collect();
         self.presentation
     }

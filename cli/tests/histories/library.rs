@@ -1,7 +1,7 @@
-//! Open, append and close by the library, on lent copies with guards.
+//! Open, append, close and restart by the library, on lent copies with guards.
 
 use pahyndoi::model::{self, Call, Position};
-use pahyndoi::{State, append_raw, close_raw, open_raw};
+use pahyndoi::{State, append_raw, close_raw, open_raw, restart_raw};
 
 use crate::device::Device;
 use crate::lent::{Lent, Stand, assert_only_read};
@@ -27,6 +27,7 @@ pub fn perform(stand: Stand, device: &Device, call: &Call) -> (u64, Device) {
         } => loan.open(log_lengths, *seal_length),
         Call::Append { phase, data } => loan.append(*phase, data),
         Call::Close => loan.close(),
+        Call::Restart { number } => loan.restart(*number),
     };
     (answer, loan.give_back())
 }
@@ -84,6 +85,16 @@ impl Loan {
             self.store.content(),
             self.logs.content(),
             self.seal.content_mut(),
+        )
+    }
+
+    fn restart(&mut self, number: u32) -> u64 {
+        restart_raw(
+            &mut self.state.content_mut()[0],
+            self.store.content_mut(),
+            self.logs.content(),
+            self.seal.content_mut(),
+            number,
         )
     }
 

@@ -126,7 +126,8 @@ fn resize_seal_memory(random: &mut Random, device: &mut Device) {
     let used = device.state.seal_length.min(1 << 16) as usize;
     let (entry, filler) = (device.set().entry_length(), device.set().filler_length());
     let due = device.fillers_due() * filler;
-    let wanted = random.pick(&[0, filler, entry, 2 * filler, due, due]);
+    let restart = device.set().restart_length();
+    let wanted = random.pick(&[0, filler, entry, restart, 2 * filler, due, due]);
     let new = match random.up_to(2) {
         0 => used + (wanted + random.up_to(2)).saturating_sub(1),
         1 => used.saturating_sub(1),
@@ -164,12 +165,13 @@ fn alter_seal_length(random: &mut Random, device: &mut Device) {
     let entry = device.set().entry_length() as u64;
     let filler = device.set().filler_length() as u64;
     let due = device.fillers_due() as u64 * filler;
+    let restart = device.set().restart_length() as u64;
     device.state.seal_length = match random.up_to(4) {
         0 => end,
         1 => end + 1,
         2 => random.pick(&[u64::MAX, u64::MAX - entry + 1, 1 << 32, (1 << 32) + end]),
         3 => {
-            let free = random.pick(&[filler, entry, due]) + random.up_to(2) as u64;
+            let free = random.pick(&[filler, entry, restart, due]) + random.up_to(2) as u64;
             end.saturating_sub(free.saturating_sub(1))
         }
         _ => random.up_to(end as usize) as u64,

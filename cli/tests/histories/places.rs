@@ -30,7 +30,7 @@ pub fn entries(set: Set, seal_file: &[u8]) -> Vec<(u32, Area)> {
             length,
             ..
         } => Some((number, (phase, offset, length))),
-        Head::Filler { .. } => None,
+        Head::Filler { .. } | Head::Restart { .. } => None,
     };
     numbered.filter_map(entry).collect()
 }

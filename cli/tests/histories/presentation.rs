@@ -104,7 +104,8 @@ impl Presentation {
         ]
     }
 
-    fn presented<'a>(&'a self, log_lengths: &'a [u32]) -> Presented<'a> {
+    /// With the log lengths that the bytes say.
+    pub fn presented<'a>(&'a self, log_lengths: &'a [u32]) -> Presented<'a> {
         Presented {
             device_store: &self.device_store,
             auditor_store: &self.auditor_store,

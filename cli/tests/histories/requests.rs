@@ -22,21 +22,45 @@ const DATA_LENGTHS: [usize; 12] = [
     256 * 256 * 2 + 16,
 ];
 
-/// Where a close might just fill the seal memory, it is made often.
+/// Where a close or a restart might just fill the seal memory, it is made often.
 pub fn random_call(random: &mut Random, device: &Device) -> Call {
-    match random.up_to(9) {
-        0..=4 if is_nearly_full(device) => Call::Close,
+    let fillers = device.fillers_due() * device.set().filler_length();
+    let restart = device.set().restart_length();
+    match random.up_to(11) {
+        0..=4 if fillers > 0 && nearly_fill(device, fillers) => Call::Close,
+        0..=4 if fillers == 0 && nearly_fill(device, restart) => random_restart(random, device),
         0..=6 => random_append(random, device),
         7 => Call::Close,
+        8 | 9 => random_restart(random, device),
         _ => random_open(random, device),
     }
 }
 
-/// Whether the fillers due end within a byte of the seal memory's end.
-fn is_nearly_full(device: &Device) -> bool {
-    let due = (device.fillers_due() * device.set().filler_length()) as u64;
-    let filled = device.state.seal_length.saturating_add(due);
-    due > 0 && filled.abs_diff(device.material.seal_memory.len() as u64) <= 1
+fn random_restart(random: &mut Random, device: &Device) -> Call {
+    let ratchet = device.header().map_or(256, |header| header.ratchet);
+    let number = random_number(random, ratchet);
+    Call::Restart { number }
+}
+
+/// Mostly one that a restart may have, often at the ends; else one beyond them,
+/// or one with high bits that are lost in 16 or 8.
+pub fn random_number(random: &mut Random, ratchet: u32) -> u32 {
+    let inside = random.between(1, ratchet.max(2) as usize - 1) as u32;
+    match random.up_to(9) {
+        0 => 0,
+        1 => ratchet,
+        2 => random.pick(&[ratchet + 1, 256, 257, u32::MAX]),
+        3 => inside | random.pick(&[1 << 8, 1 << 16, 1 << 31]),
+        4 => 1,
+        5 | 6 => ratchet - 1,
+        _ => inside,
+    }
+}
+
+/// Whether so many bytes more end within a byte of the seal memory's end.
+fn nearly_fill(device: &Device, length: usize) -> bool {
+    let filled = device.state.seal_length.saturating_add(length as u64);
+    filled.abs_diff(device.material.seal_memory.len() as u64) <= 1
 }
 
 fn random_append(random: &mut Random, device: &Device) -> Call {

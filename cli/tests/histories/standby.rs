@@ -2,15 +2,15 @@
 //! and what of the one is presented as the other's. Likewise what a forger
 //! seals by other rules than the format's.
 
-use pahyndoi::model::{Call, Head, Item, KEY_LENGTH, Material, Position, Set, State};
+use pahyndoi::model::{Call, Event, Head, Item, KEY_LENGTH, Material, Position, Set, State};
 
 use crate::answer::split;
 use crate::areas::rising_areas;
 use crate::calls;
 use crate::device::{Device, ID, Shape};
 use crate::exchanges::Stores;
-use crate::forgery::{filled_up, seal};
-use crate::honest::{random_calls, random_shape};
+use crate::forgery::{filled_up_with_restarts, seal_heads};
+use crate::honest::{Told, random_shape};
 use crate::lent::Stand;
 use crate::messages::{Message, Rules};
 use crate::places::items;
@@ -26,13 +26,19 @@ const ENTRIES_AT_0: &str = "entries exchanged at offset 0";
 const ENTRIES_ABOVE_0: &str = "entries exchanged above offset 0";
 const FILLERS_AT_0: &str = "fillers exchanged at offset 0";
 const FILLERS_ABOVE_0: &str = "fillers exchanged above offset 0";
-pub const KINDS_EXCHANGED: [&str; 4] =
-    [ENTRIES_AT_0, ENTRIES_ABOVE_0, FILLERS_AT_0, FILLERS_ABOVE_0];
+const RESTARTS: &str = "restarts exchanged";
+pub const KINDS_EXCHANGED: [&str; 5] = [
+    ENTRIES_AT_0,
+    ENTRIES_ABOVE_0,
+    FILLERS_AT_0,
+    FILLERS_ABOVE_0,
+    RESTARTS,
+];
 pub const SEAL_FILES: &str = "seal files exchanged";
 pub const IDS: &str = "ids exchanged in both stores";
 
-/// The same calls on a device and its standby, by library and model; what they
-/// left is exchanged.
+/// The same calls and cuts on a device and its standby, by library and model;
+/// what they left is exchanged.
 pub fn check_sealed(random: &mut Random, tally: &mut Tally, own_set: Option<Set>) {
     let mut shape = random_shape(random, own_set);
     let keys = shape.chunk_count * shape.ratchet;
@@ -40,14 +46,14 @@ pub fn check_sealed(random: &mut Random, tally: &mut Tally, own_set: Option<Set>
     let unused = random_pair(random, &shape);
     let mut devices = unused.clone().map(unused_device);
     let count = random.up_to(keys);
-    let mut calls = random_calls(random, &shape, count);
-    calls.push(Call::Close);
-    for call in &calls {
+    let mut told = Told::random(random, &unused[0], &shape, count);
+    told.tell(Event::Call(Call::Close));
+    for event in &told.events {
         let stand = Stand::random(random);
         let [answer, other] = devices
             .each_mut()
-            .map(|device| calls::compare(stand, device, call));
-        assert_eq!(split(answer), split(other), "device's, standby's");
+            .map(|device| bring_on(stand, device, event));
+        assert_eq!(answer.map(split), other.map(split), "device's, standby's");
         assert_told_apart(&devices);
     }
     let [device, standby] = [0, 1].map(|index| {
@@ -61,17 +67,30 @@ pub fn check_sealed(random: &mut Random, tally: &mut Tally, own_set: Option<Set>
     check_pair(random, tally, shape.set(), &device, &standby);
 }
 
+/// A cut has no answer.
+fn bring_on(stand: Stand, device: &mut Device, event: &Event) -> Option<u64> {
+    match event {
+        Event::Call(call) => Some(calls::compare(stand, device, call)),
+        Event::Cut => {
+            device.state = State::default();
+            None
+        }
+    }
+}
+
 /// The same for a forger who knows every key: fillers stand at offset 0 too.
 pub fn check_forged(random: &mut Random, tally: &mut Tally, own_set: Option<Set>) {
     let set = in_effect(own_set);
     let phases = random.between(1, 3);
     let (lengths, areas) = rising_areas(random, set, phases);
     let ratchet = random.pick(&[1, 2, 3, 5]);
-    let (shape, areas) = filled_up(own_set, ratchet, phases, areas);
+    let between = random.pick(&[2, 4, 1000]);
+    let wanted = |_| random.once_in(between);
+    let (shape, heads) = filled_up_with_restarts(own_set, ratchet, phases, &areas, wanted);
     let [device, standby] = random_pair(random, &shape)
-        .map(|unused| seal(&unused, set, &lengths, &areas, Rules::RIGHT));
+        .map(|unused| seal_heads(&unused, set, &lengths, &heads, Rules::RIGHT));
     let answer = split(device.compare(random, tally));
-    assert_eq!(answer, (0, areas.len() as u32));
+    assert_eq!(answer, (0, heads.len() as u32));
     check_pair(random, tally, set, &device, &standby);
 }
 
@@ -87,13 +106,14 @@ pub fn check_rules(random: &mut Random, tally: &mut Tally, own_set: Option<Set>)
     ];
     let fillers_first = [None, None, Some((1, 0, 1)), Some((2, 0, 1))];
     for (lengths, areas) in [([set.data_limit, 2], entries), ([1, 1], fillers_first)] {
-        for ratchet in [1, 2, 4] {
-            let (shape, areas) = filled_up(own_set, ratchet, 2, areas.to_vec());
+        // Without restarts, then with one wherever it may stand.
+        for (ratchet, restarts) in [(1, false), (2, false), (4, false), (2, true), (4, true)] {
+            let (shape, heads) = filled_up_with_restarts(own_set, ratchet, 2, &areas, |_| restarts);
             let [unused, other] = random_pair(random, &shape);
             let other_id = other.store[ID].try_into().expect("8 bytes");
-            let seal = |rules| seal(&unused, set, &lengths, &areas, rules);
+            let seal = |rules| seal_heads(&unused, set, &lengths, &heads, rules);
             let right = seal(Rules::RIGHT);
-            assert_eq!(split(right.compare(random, tally)), (0, areas.len() as u32));
+            assert_eq!(split(right.compare(random, tally)), (0, heads.len() as u32));
             for message in Message::wrong(other_id) {
                 let items = seal(Rules {
                     items: message,
@@ -236,5 +256,6 @@ fn counted(head: &Head) -> &'static str {
         (Head::Entry { .. }, _) => ENTRIES_ABOVE_0,
         (Head::Filler { .. }, 0) => FILLERS_AT_0,
         (Head::Filler { .. }, _) => FILLERS_ABOVE_0,
+        (Head::Restart { .. }, _) => RESTARTS,
     }
 }

@@ -141,7 +141,7 @@ fn data<'a>(case: &'a Case, head: &Head) -> &'a [u8] {
             length,
             ..
         } => case.data(phase, offset, length),
-        Head::Filler { .. } => &[],
+        Head::Filler { .. } | Head::Restart { .. } => &[],
     }
 }
 
