@@ -54,10 +54,14 @@ mod random;
 mod ranges;
 #[path = "histories/requests.rs"]
 mod requests;
+#[path = "histories/restarts.rs"]
+mod restarts;
 #[path = "histories/rising.rs"]
 mod rising;
 #[path = "histories/rows.rs"]
 mod rows;
+#[path = "histories/seizures.rs"]
+mod seizures;
 #[path = "histories/sets.rs"]
 mod sets;
 #[path = "histories/standby.rs"]
@@ -147,6 +151,25 @@ fn histories_are_those_of_their_account() {
         tallies.assert_all_met("lookup", &[0, 22, 24], 50);
         for counted in accounts::CUTS {
             tallies.assert_more(counted, 50);
+        }
+    }
+}
+
+/// What is presented for a device that was seized behind a history.
+#[test]
+fn seized_devices_keep_their_items_up_to_b() {
+    let run = Run::new(2000);
+    let mut tallies = Tallies::default();
+    for mut case in run.each() {
+        let tally = tallies.of(case.own_set);
+        let recorded = accounts::check_history(&mut case, tally);
+        case.step = "seized".to_string();
+        seizures::check(&mut case.random, tally, &recorded);
+    }
+    tallies.print();
+    if run.whole {
+        for counted in seizures::COUNTED {
+            tallies.assert_more(counted, 30);
         }
     }
 }
@@ -284,6 +307,25 @@ fn entries_begin_at_the_covered_end() {
         }
         tallies.assert_more(rising::IN_TURNS, run.cases / 3);
         tallies.assert_more(rising::LOOKED_UP, 3 * run.cases);
+    }
+}
+
+/// By somebody who knows every key: restarts at every place of a file, right
+/// and wrong ones.
+#[test]
+fn restarts_are_taken_where_a_chunk_was_cut() {
+    let run = Run::new(200);
+    let mut tallies = Tallies::default();
+    for mut case in run.each() {
+        let tally = tallies.of(case.own_set);
+        restarts::check(&mut case, tally);
+    }
+    tallies.print();
+    if run.whole {
+        tallies.assert_all_met("audit", &[0, 16, 17, 21, 22], run.cases);
+        for counted in restarts::COUNTED {
+            tallies.assert_more(counted, run.cases);
+        }
     }
 }
 

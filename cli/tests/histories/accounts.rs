@@ -52,7 +52,7 @@ pub fn check_history(case: &mut Case, tally: &mut Tally) -> Recorded {
         recorded.make(event, tally);
     }
     case.step = "end of the history".to_string();
-    if !case.random.once_in(6) {
+    if !case.random.once_in(3) {
         recorded.finish(tally);
     }
     let Recorded { start, events, .. } = &recorded;

@@ -378,6 +378,11 @@ impl Forger {
         }
     }
 
+    /// Changes a byte of the log memory that is then sealed.
+    pub fn change_log(&mut self, place: usize, change: u8) {
+        self.presentation.log_memory[place] ^= change;
+    }
+
     /// Each item under the key of the place that it names, with its whole tag.
     pub fn seal_in_place(&self, heads: &[Head]) -> Vec<Item> {
         let places: Vec<Position> = heads.iter().map(Head::position).collect();
@@ -386,7 +391,7 @@ impl Forger {
 
     /// Each item under the key of a place, with its whole tag; under zeros where
     /// the store has no such key.
-    fn seal_all(&self, heads: &[Head], places: &[Position]) -> Vec<Item> {
+    pub fn seal_all(&self, heads: &[Head], places: &[Position]) -> Vec<Item> {
         let ratchet = self.header.ratchet;
         let seal = |(head, place): (&Head, &Position)| {
             let index = match place.offset < ratchet && place.chunk < self.header.chunk_count {
@@ -404,7 +409,14 @@ impl Forger {
         heads.iter().zip(places).map(seal).collect()
     }
 
-    pub fn present(mut self, items: &[Item]) -> Presentation {
+    /// With the tags cut as the set says.
+    pub fn present_cut(self, set: Set, mut items: Vec<Item>) -> Presentation {
+        let lengths = vec![usize::from(set.tag_length); items.len()];
+        cut_tags(&mut items, &lengths);
+        self.present(&items)
+    }
+
+    fn present(mut self, items: &[Item]) -> Presentation {
         self.presentation.seal_file = items.iter().flat_map(Item::to_bytes).collect();
         self.presentation
     }
