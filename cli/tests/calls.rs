@@ -1,6 +1,8 @@
 //! The calls that answer a result: counts, refusals and what they leave.
 
-use pahyndoi::{Material, Refusal, Rejected, State, append, audit, close, data_at, item_at, open};
+use pahyndoi::{
+    Material, Refusal, Rejected, State, append, audit, close, data_at, item_at, open, restart,
+};
 
 /// A kind of store, and what it says.
 #[derive(Debug)]
@@ -32,17 +34,25 @@ static KINDS: [Kind; 2] = [
 ];
 
 impl Kind {
-    /// One phase, one chunk and two keys from it.
-    fn unused_store(&self) -> Vec<u8> {
-        let fields = [1, 2, 3, 4, 5, 6, 7, 8, 1, 1, 0, 0, 0, 2, 0, 0, 0];
-        [&[self.kind], &fields[..], self.set, &[7; 32]].concat()
+    /// One phase, and two keys from each chunk.
+    fn unused_store(&self, chunks: u8) -> Vec<u8> {
+        let fields = [1, 2, 3, 4, 5, 6, 7, 8, 1, chunks, 0, 0, 0, 2, 0, 0, 0];
+        let keys = (7..7 + chunks).flat_map(|byte| [byte; 32]);
+        let mut store = [&[self.kind], &fields[..], self.set].concat();
+        store.extend(keys);
+        store
     }
 
-    /// With an unused store.
+    /// With an unused store of one chunk.
     fn device(&'static self, seal_memory: usize) -> Device {
+        self.device_of(1, seal_memory)
+    }
+
+    fn device_of(&'static self, chunks: u8, seal_memory: usize) -> Device {
         let mut device = Device {
             kind: self,
-            store: self.unused_store(),
+            chunks,
+            store: self.unused_store(chunks),
             logs: vec![0; self.log_capacity as usize],
             seal: vec![0; seal_memory],
             state: State::default(),
@@ -54,6 +64,7 @@ impl Kind {
 
 struct Device {
     kind: &'static Kind,
+    chunks: u8,
     store: Vec<u8>,
     logs: Vec<u8>,
     seal: Vec<u8>,
@@ -80,11 +91,31 @@ impl Device {
         close(&mut self.state, &self.store, &self.logs, &mut self.seal)
     }
 
+    fn restart(&mut self, number: u32) -> Result<u64, Refusal> {
+        restart(
+            &mut self.state,
+            &mut self.store,
+            &self.logs,
+            &mut self.seal,
+            number,
+        )
+    }
+
+    /// Loses the state and opens with the lengths reached.
+    fn lose_power(&mut self) {
+        let State {
+            lengths,
+            seal_length,
+            ..
+        } = self.state;
+        self.state = self.open(&lengths[..1], seal_length).expect("a store");
+    }
+
     /// Hands the call what a seized device and its auditor have.
     fn present<T>(&self, call: impl FnOnce(&Material) -> T) -> T {
         call(&Material {
             device_store: &self.store,
-            auditor_store: &self.kind.unused_store(),
+            auditor_store: &self.kind.unused_store(self.chunks),
             logs: &self.logs,
             lengths: &self.state.lengths[0].to_le_bytes(),
             seal_file: &self.seal[..self.state.seal_length as usize],
@@ -191,18 +222,100 @@ fn unfit_states_and_full_logs() {
     }
 }
 
-/// As the header warns: the keys left in a half-used chunk go with the state.
+/// As the header warns: the keys left in a half-used chunk go with the state,
+/// and behind the last chunk there is none for a restart.
 #[test]
 fn state_lost_half_way_is_refused_by_the_audit() {
     for mut device in devices(200) {
         device.append(1, b"first").expect("a free key");
-        let entry = device.kind.entry_length;
-        device.state = device
-            .open(&[5], entry)
-            .expect("a burned chunk at the front");
+        device.lose_power();
         assert_eq!(device.close(), Ok(0));
         let rejected = device.audit().expect_err("a key that sealed nothing");
         assert_eq!(rejected.refusal, Refusal(22));
+        assert_eq!(device.restart(1), Err(Refusal(11)));
+    }
+}
+
+/// A device of each kind with four chunks.
+fn longer_devices(seal_memory: usize) -> impl Iterator<Item = Device> {
+    KINDS.iter().map(move |kind| kind.device_of(4, seal_memory))
+}
+
+#[test]
+fn restart_goes_on_behind_a_cut() {
+    for mut device in longer_devices(400) {
+        device.append(1, b"first").expect("a free key");
+        device.lose_power();
+        assert_eq!(device.audit(), Err(rejected(22)));
+        assert_eq!(device.restart(1), Ok(2));
+        assert_eq!(device.audit(), Err(rejected(22)));
+        assert_eq!(device.append(1, b"second"), Ok(3));
+        assert_eq!(device.audit(), Ok(3));
+        assert_eq!(device.look_up(1, 5), (Ok(2), b"second".to_vec()));
+        // Cut at once behind the restart.
+        device.append(1, b"third").expect("a free key");
+        device.lose_power();
+        assert_eq!(device.restart(1), Ok(6));
+        device.lose_power();
+        assert_eq!(device.restart(1), Err(Refusal(11)));
+    }
+}
+
+/// Without a restart, or with one where no chunk was cut.
+#[test]
+fn restarts_missing_or_too_many_are_rejected() {
+    let at_item = |item| Rejected {
+        item: Some(item),
+        ..rejected(17)
+    };
+    for mut device in longer_devices(400) {
+        device.append(1, b"first").expect("a free key");
+        device.lose_power();
+        assert_eq!(device.append(1, b"second"), Ok(2));
+        assert_eq!(device.audit(), Err(at_item(1)));
+    }
+    for mut device in longer_devices(400) {
+        device.append(1, b"first").expect("a free key");
+        device.append(1, b"second").expect("a free key");
+        device.lose_power();
+        assert_eq!(device.audit(), Ok(2));
+        assert_eq!(device.restart(1), Ok(2));
+        assert_eq!(device.close(), Ok(1));
+        assert_eq!(device.audit(), Err(at_item(2)));
+    }
+}
+
+#[test]
+fn refused_restarts_change_nothing() {
+    for mut device in longer_devices(0) {
+        let entry = device.kind.entry_length as usize;
+        device.seal.resize(entry + entry - 6, 0);
+        assert_eq!(device.restart(1), Err(Refusal(27)));
+        device.append(1, b"first").expect("a free key");
+        assert_eq!(device.restart(1), Err(Refusal(27)));
+        device.lose_power();
+        let before = (device.state, device.store.clone(), device.seal.clone());
+        for number in [0, 2, 255, u32::MAX] {
+            assert_eq!(device.restart(number), Err(Refusal(27)));
+        }
+        // One byte is missing.
+        assert_eq!(device.restart(1), Err(Refusal(10)));
+        device.logs.pop();
+        assert_eq!(device.restart(0), Err(Refusal(3)));
+        device.logs.push(0);
+        let unfit = State {
+            offset: 1,
+            ..device.state
+        };
+        let fit = std::mem::replace(&mut device.state, unfit);
+        assert_eq!(device.restart(0), Err(Refusal(6)));
+        device.state = fit;
+        assert_eq!(
+            (device.state, device.store.clone(), device.seal.clone()),
+            before
+        );
+        device.seal.push(0);
+        assert_eq!(device.restart(1), Ok(2));
     }
 }
 
