@@ -5,7 +5,8 @@
 enum { ENTRY_KIND = 2, RATCHET_KIND = 4, ID_SIZE = 8, HEAD_SIZE = 18, RATCHET_HEAD_SIZE = 9 };
 
 #if PAHYNDOI_ENTRY_SIZE_OF(PAHYNDOI_TAG_SIZE) != PAHYNDOI_ENTRY_SIZE || \
-    PAHYNDOI_FILLER_SIZE_OF(PAHYNDOI_TAG_SIZE) != PAHYNDOI_FILLER_SIZE
+    PAHYNDOI_FILLER_SIZE_OF(PAHYNDOI_TAG_SIZE) != PAHYNDOI_FILLER_SIZE || \
+    PAHYNDOI_RESTART_SIZE_OF(PAHYNDOI_TAG_SIZE) != PAHYNDOI_RESTART_SIZE
 #error "the items of kind 1 have other sizes than those of its set"
 #endif
 
@@ -35,7 +36,7 @@ pahyndoi_state state;
 
 uint8_t phase;
 size_t data_size, key_size, message_size, wanted;
-uint32_t offset;
+uint32_t cut_items, offset;
 size_t counts_count;
 uint32_t count, planned_chunks;
 uint64_t answer;
@@ -126,6 +127,7 @@ void unused_device(uint32_t ratchet)
     seal_size = PAHYNDOI_SEAL_SIZE_OF(set->tag_length, CHUNKS, RATCHET_MOST);
     lengths_count = PHASES;
     phase = 1;
+    cut_items = 1;
     offset = 0;
     data_size = 1;
 }
@@ -147,6 +149,12 @@ void append_job(void)
 void close_job(void)
 {
     answer = close_function(&state, store, store_size, logs, logs_size, seal, seal_size);
+}
+
+void restart_job(void)
+{
+    answer = pahyndoi_restart(&state, store, store_size, logs, logs_size, seal, seal_size,
+                              cut_items);
 }
 
 /* The log lengths that the state holds, as bytes. */

@@ -11,7 +11,7 @@
 #include "pahyndoi.h"
 #include "secrets.h"
 
-enum { PHASES = 8, CHUNKS = 3, RATCHET_MOST = 256, KEYS_MOST = CHUNKS * RATCHET_MOST };
+enum { PHASES = 8, CHUNKS = 4, RATCHET_MOST = 256, KEYS_MOST = CHUNKS * RATCHET_MOST };
 
 /* What a store sets, and its kind. Tried are kind 1; and of kind 6 the same set, the least of
    everything, the longest data in logs with room for nothing else, and the most of everything. */
@@ -28,7 +28,7 @@ extern const struct set *set;
 /* So many bytes of data, or the data limit if that is less. */
 size_t allowed(size_t size);
 
-/* Device and auditor share an unused store of three chunks with so many keys each; logs and seal
+/* Device and auditor share an unused store of four chunks with so many keys each; logs and seal
    file are empty. */
 void unused_device(uint32_t ratchet);
 
@@ -55,6 +55,9 @@ extern pahyndoi_state state;
 extern uint8_t phase;
 extern size_t data_size, key_size, message_size, wanted;
 
+/* What restart is handed besides: how many items the cut chunk had. */
+extern uint32_t cut_items;
+
 /* The byte of the phase's log that is looked up. */
 extern uint32_t offset;
 
@@ -69,6 +72,7 @@ extern uint64_t answer;
 void open_job(void);
 void append_job(void);
 void close_job(void);
+void restart_job(void);
 void audit_job(void);
 void item_at_job(void);
 void data_at_job(void);

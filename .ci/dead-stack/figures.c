@@ -6,6 +6,9 @@
 #include "device.h"
 #include "painted.h"
 
+/* Where a restart item has its number. */
+enum { RESTART_NUMBER = 9 };
+
 struct call {
     const char *name;
     void (*job)(void);
@@ -16,6 +19,7 @@ struct call {
 static struct call opening = {"open", open_job, PAHYNDOI_SEALING_STACK, 0};
 static struct call appending = {"append", append_job, PAHYNDOI_SEALING_STACK, 0};
 static struct call closing = {"close", close_job, PAHYNDOI_SEALING_STACK, 0};
+static struct call restarting = {"restart", restart_job, PAHYNDOI_SEALING_STACK, 0};
 static struct call auditing = {"audit", audit_job, PAHYNDOI_AUDIT_STACK, 0};
 static struct call item_finding = {"item_at", item_at_job, PAHYNDOI_AUDIT_STACK, 0};
 static struct call data_finding = {"data_at", data_at_job, PAHYNDOI_AUDIT_STACK, 0};
@@ -80,7 +84,7 @@ static void measure_append(void)
 {
     static const size_t sizes[] = {1,  28, 29, 30,  37,  38,
                                    39, 64, 93, 102, 103, PAHYNDOI_LARGEST_DATA_LIMIT};
-    unused_device(4);
+    unused_device(3);
     for (size_t i = 0; i < sizeof sizes / sizeof sizes[0]; i++) {
         data_size = allowed(sizes[i]);
         measure(&appending, 0);
@@ -120,6 +124,33 @@ static void measure_close(void)
     measure(&closing, PAHYNDOI_BAD_LOGS);
     store_size = 0;
     measure(&closing, PAHYNDOI_BAD_STORE);
+}
+
+/* Behind a chunk that was cut, behind a restart that was, and where no chunk is left. */
+static void measure_restart(void)
+{
+    unused_device(4);
+    measure(&restarting, PAHYNDOI_BAD_RESTART);
+    append_job();
+    measure(&restarting, PAHYNDOI_BAD_RESTART);
+    for (size_t i = 1; i < CHUNKS; i++) {
+        open_job();
+        measure(&restarting, 0);
+    }
+    open_job();
+    measure(&restarting, PAHYNDOI_KEYS_SPENT);
+    seal_size = (size_t)state.seal_length;
+    measure(&restarting, PAHYNDOI_SEAL_FULL);
+    cut_items = 0;
+    measure(&restarting, PAHYNDOI_BAD_RESTART);
+    cut_items = 4;
+    measure(&restarting, PAHYNDOI_BAD_RESTART);
+    state.chunk = CHUNKS + 1;
+    measure(&restarting, PAHYNDOI_STATE_UNFIT);
+    logs_size = 0;
+    measure(&restarting, PAHYNDOI_BAD_LOGS);
+    store_size = 0;
+    measure(&restarting, PAHYNDOI_BAD_STORE);
 }
 
 /* In every phase so many entries of one byte, one behind the other; the phases take turns. */
@@ -179,9 +210,29 @@ static void measure_accepted(void)
     measure_last(PHASES, set->data_limit);
 }
 
+/* An entry, then a restart in each chunk but the first, and fillers to the end of the last one. */
+static void measure_restarted(void)
+{
+    unused_device(4);
+    append_job();
+    for (size_t i = 1; i < CHUNKS; i++) {
+        open_job();
+        restart_job();
+    }
+    measure_refused(PAHYNDOI_ITEMS_MISSING);
+    close_job();
+    measure(&auditing, 0);
+    if (PAHYNDOI_NUMBER(answer) != CHUNKS + 3)
+        fail("the audit counted %u items", (unsigned)PAHYNDOI_NUMBER(answer));
+    measure_lookups(0);
+    seal[PAHYNDOI_ENTRY_SIZE_OF(set->tag_length) + RESTART_NUMBER] ^= 2;
+    measure_refused(PAHYNDOI_WRONG_PLACE);
+}
+
 static void measure_audit(void)
 {
     measure_accepted();
+    measure_restarted();
     craft_bytes(RATCHET_MOST / PHASES);
     state.lengths[PHASES - 1]++;
     measure_refused(PAHYNDOI_NOT_COVERED);
@@ -212,6 +263,7 @@ static void measure_bad_store(void)
     measure(&opening, PAHYNDOI_BAD_STORE);
     measure(&appending, PAHYNDOI_BAD_STORE);
     measure(&closing, PAHYNDOI_BAD_STORE);
+    measure(&restarting, PAHYNDOI_BAD_STORE);
     measure_refused(PAHYNDOI_BAD_STORE);
 }
 
@@ -304,13 +356,14 @@ static void measure_plans(void)
 
 void check_figures(void)
 {
-    const struct call *calls[] = {&opening,      &appending,    &closing, &auditing, &item_finding,
-                                  &data_finding, &hashing,      &tagging, &planning};
+    const struct call *calls[] = {&opening,      &appending,    &closing, &restarting, &auditing,
+                                  &item_finding, &data_finding, &hashing, &tagging,    &planning};
     for (size_t i = 0; i < SETS; i++) {
         set = &sets[i];
         measure_open();
         measure_append();
         measure_close();
+        measure_restart();
         measure_audit();
     }
     measure_bad_sets();
