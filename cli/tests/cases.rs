@@ -44,6 +44,7 @@ fn every_refusal_is_met() {
     assert_eq!(refusals("open"), [0, 2, 3, 4, 5, 6]);
     assert_eq!(refusals("append"), [0, 2, 3, 6, 7, 8, 9, 10, 11]);
     assert_eq!(refusals("close"), [0, 2, 3, 6, 10]);
+    assert_eq!(refusals("restart"), [0, 2, 3, 6, 10, 11, 27]);
     let of_audit: Vec<u32> = [0].into_iter().chain(2..=5).chain(12..=23).collect();
     assert_eq!(refusals("audit"), of_audit);
     assert_eq!(refusals("lookup"), [&of_audit[..], &[24]].concat());
@@ -58,7 +59,8 @@ fn every_refusal_that_follows_the_set_is_met() {
     assert_eq!(refusals("open"), [0, 2, 3, 4, 5]);
     assert_eq!(refusals("append"), [0, 2, 3, 6, 8, 9, 10]);
     assert_eq!(refusals("close"), [0, 2, 3, 6, 10]);
-    let of_audit = [0, 2, 3, 4, 5, 12, 13, 14, 15, 18, 19, 20, 21, 22, 23];
+    assert_eq!(refusals("restart"), [0, 10, 27]);
+    let of_audit: Vec<u32> = [0].into_iter().chain(2..=5).chain(12..=23).collect();
     assert_eq!(refusals("audit"), of_audit);
     assert_eq!(refusals("lookup"), [0, 2, 12, 13, 24]);
 }

@@ -138,6 +138,15 @@ impl Machine {
             AUDIT => self.audit(record),
             LOOKUP => self.look_up(record),
             PLAN => self.plan(record),
+            RESTART => {
+                let answer = model::restart(
+                    model::plain_hmac,
+                    &mut self.material,
+                    &mut self.state,
+                    record.number(4),
+                );
+                self.print_call("restart", answer);
+            }
             operation => panic!("operation {operation}"),
         }
     }

@@ -44,6 +44,9 @@ pub const LOOKUP: u8 = 10;
 /// count, 8: the count at the other places, 16: twelve listed counts.
 pub const PLAN: u8 = 11;
 
+/// 4: number.
+pub const RESTART: u8 = 12;
+
 pub const FIELD_CHUNK: u8 = 0;
 pub const FIELD_OFFSET: u8 = 1;
 pub const FIELD_SEAL_LENGTH: u8 = 2;

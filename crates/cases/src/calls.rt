@@ -75,6 +75,20 @@ pub fn close(view: View, store: &[u8], logs: &[u8], seal: &mut [u8]) -> View {
     line(b"close", sealed, view, store, logs, seal)
 }
 
+pub fn restart(view: View, record: &[u8], store: &mut [u8], logs: &[u8], seal: &mut [u8]) -> View {
+    let a = within(view.store, store);
+    let b = within(view.logs, logs);
+    let c = within(view.seal, seal);
+    let sealed = sealer::restart(
+        view.state,
+        &mut store[..a],
+        &logs[..b],
+        &mut seal[..c],
+        word(record, 4),
+    );
+    line(b"restart", sealed, view, store, logs, seal)
+}
+
 pub fn audit(
     view: View,
     record: &[u8],

@@ -59,6 +59,7 @@ fn step(
         9 => calls::audit(view, record, store, logs, seal, auditor),
         10 => calls::lookup(view, record, store, logs, seal, auditor),
         11 => calls::plan(view, record),
+        12 => calls::restart(view, record, store, logs, seal),
         _ => view,
     }
 }

@@ -1,6 +1,7 @@
-//! The script: sealing under several shapes of store, audits of what it leaves
-//! and of what is forged, lookups of bytes, each refusal at its two sides, and
-//! their order; plans; the same edges in stores with a set of their own.
+//! The script: sealing under several shapes of store, restarts behind a cut,
+//! audits of what they leave and of what is forged, lookups of bytes, each
+//! refusal at its two sides, and their order; plans; the same edges in stores
+//! with a set of their own.
 
 mod audits;
 mod fit;
@@ -8,6 +9,7 @@ mod limits;
 mod lookups;
 mod order;
 mod plans;
+mod restarts;
 mod sealing;
 mod sets;
 mod stores;
@@ -38,6 +40,7 @@ pub fn script() -> Vec<u8> {
     fit::groups(&mut script);
     limits::groups(&mut script);
     order::groups(&mut script);
+    restarts::groups(&mut script);
     audits::groups(&mut script);
     lookups::groups(&mut script);
     plans::groups(&mut script);
@@ -147,6 +150,10 @@ impl Script {
 
     fn close(&mut self) {
         self.push(CLOSE, &[]);
+    }
+
+    fn restart(&mut self, number: u32) {
+        self.push(RESTART, &[(4, &number.to_le_bytes())]);
     }
 
     fn set_chunk(&mut self, number: u32) {

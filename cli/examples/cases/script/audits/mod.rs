@@ -6,6 +6,7 @@ mod histories;
 mod items;
 mod order;
 mod presented;
+pub(super) mod restarts;
 mod rising;
 mod standby;
 
@@ -22,6 +23,7 @@ pub(super) fn groups(script: &mut Script) {
     endings::groups(script);
     order::groups(script);
     standby::groups(script);
+    restarts::groups(script);
 }
 
 /// An entry by phase, offset and data length, or a filler.

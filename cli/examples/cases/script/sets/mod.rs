@@ -5,6 +5,7 @@ mod audits;
 mod histories;
 mod items;
 mod limits;
+mod restarts;
 mod stores;
 
 use pahyndoi::model::Set;
@@ -47,6 +48,7 @@ pub(super) fn groups(script: &mut Script) {
     audits::groups(script);
     items::groups(script);
     histories::groups(script);
+    restarts::groups(script);
 }
 
 const fn set(tag_length: u8, data_limit: u32, log_capacity: u32) -> Set {
