@@ -1,8 +1,9 @@
 /*
  * Sealed phase logs: SHA-256 (FIPS 180-4), HMAC-SHA-256 whole or cut (RFC 2104,
- * FIPS 198-1), the sealer that opens a key store, appends and closes, the
- * audit, which item sealed a byte, and the ratchet that a card needs. The
- * archive asks for memcpy and memset alone, and allocates nothing.
+ * FIPS 198-1), the sealer that opens a key store, appends, closes and restarts
+ * after a power cut, the audit, which item sealed a byte, and the ratchet that
+ * a card needs. The archive asks for memcpy and memset alone, and allocates
+ * nothing.
  */
 
 #ifndef PAHYNDOI_H
@@ -139,14 +140,29 @@ uint32_t pahyndoi_hmac_sha256(const uint8_t *key, size_t key_length,
 #define PAHYNDOI_LARGEST_LOG_CAPACITY 65536
 
 /*
- * Of kind 1: tag length, data limit and log capacity, and the bytes of an entry
- * and of a filler item.
+ * A seal file is items, one behind the other. The first byte of an item is its
+ * kind: 2 an entry, 3 a filler, 5 a restart. Which key sealed it stands in its
+ * chunk number and, in the 4 bytes behind that, its ratchet offset, which is 0
+ * for the first key of a chunk. These are the kinds, and the places of the
+ * ratchet offset in items of each.
+ */
+#define PAHYNDOI_ENTRY_KIND 2
+#define PAHYNDOI_FILLER_KIND 3
+#define PAHYNDOI_RESTART_KIND 5
+#define PAHYNDOI_ENTRY_OFFSET_PLACE 14
+#define PAHYNDOI_FILLER_OFFSET_PLACE 5
+#define PAHYNDOI_RESTART_OFFSET_PLACE 5
+
+/*
+ * Of kind 1: tag length, data limit and log capacity, and the bytes of an
+ * entry, of a filler and of a restart item.
  */
 #define PAHYNDOI_TAG_SIZE 32
 #define PAHYNDOI_DATA_LIMIT 512
 #define PAHYNDOI_LOG_SIZE 8192
 #define PAHYNDOI_ENTRY_SIZE 50
 #define PAHYNDOI_FILLER_SIZE 41
+#define PAHYNDOI_RESTART_SIZE 45
 
 /*
  * Of every set, in bytes. Each is a constant where its arguments are, in #if as
@@ -154,18 +170,21 @@ uint32_t pahyndoi_hmac_sha256(const uint8_t *key, size_t key_length,
  * its arguments are, or are no wider than unsigned int. Nothing is checked: of
  * arguments that no store has it says nothing.
  *
- *   ENTRY_SIZE_OF   An entry item: 18 bytes and the tag.
- *   FILLER_SIZE_OF  A filler item: 9 bytes and the tag.
- *   LOGS_SIZE_OF    The log memory, exactly: a log for each phase.
- *   LOG_PLACE_OF    Where in it the log of a phase begins; phase 1 is the
- *                   first, at 0.
- *   STORE_SIZE_OF   The store, exactly: a header of this size and the chunks.
- *   SEAL_SIZE_OF    A seal memory that has room for an entry under every key. A
- *                   seal file is entry and filler items, one behind the other,
- *                   so none is longer. A smaller memory may fill up (10).
+ *   ENTRY_SIZE_OF    An entry item: 18 bytes and the tag.
+ *   FILLER_SIZE_OF   A filler item: 9 bytes and the tag.
+ *   RESTART_SIZE_OF  A restart item: 13 bytes and the tag.
+ *   LOGS_SIZE_OF     The log memory, exactly: a log for each phase.
+ *   LOG_PLACE_OF     Where in it the log of a phase begins; phase 1 is the
+ *                    first, at 0.
+ *   STORE_SIZE_OF    The store, exactly: a header of this size and the chunks.
+ *   SEAL_SIZE_OF     A seal memory that has room for an entry under every key.
+ *                    Each item of a seal file takes a key, and an entry is the
+ *                    longest, so no seal file is longer. A smaller memory may
+ *                    fill up (10).
  */
 #define PAHYNDOI_ENTRY_SIZE_OF(tag_length) (18u + (tag_length))
 #define PAHYNDOI_FILLER_SIZE_OF(tag_length) (9u + (tag_length))
+#define PAHYNDOI_RESTART_SIZE_OF(tag_length) (13u + (tag_length))
 #define PAHYNDOI_LOGS_SIZE_OF(log_capacity, phases) \
     (1u * (log_capacity) * (phases))
 #define PAHYNDOI_LOG_PLACE_OF(log_capacity, phase) \
@@ -176,23 +195,30 @@ uint32_t pahyndoi_hmac_sha256(const uint8_t *key, size_t key_length,
     (PAHYNDOI_ENTRY_SIZE_OF(tag_length) * (chunks) * (ratchet))
 
 /*
- * Open, append, close, the audit, item_at and least_ratchet answer one 64-bit
- * number: the refusal times 2 to the 32, plus a number that each call explains.
- * Nothing is refused exactly if the refusal is 0; the answer is then just the
- * number. data_at answers a place and a length in the same way.
+ * Open, append, close, restart, the audit, item_at and least_ratchet answer one
+ * 64-bit number: the refusal times 2 to the 32, plus a number that each call
+ * explains. Nothing is refused exactly if the refusal is 0; the answer is then
+ * just the number. data_at answers a place and a length in the same way.
  */
 #define PAHYNDOI_REFUSAL(answer) ((uint32_t)((uint64_t)(answer) >> 32))
 #define PAHYNDOI_NUMBER(answer) ((uint32_t)(uint64_t)(answer))
 
 /*
- * The refusals, in checking order: of those that a call checks, the first that
- * holds is the answer. A chunk is burned if all its bytes are zero; P says how
- * many chunks at the front of the device store are burned, N is the ratchet,
- * the number of keys of a chunk. Data limit and log capacity are the store's,
- * 512 and 8,192 in kind 1. The covered bytes of a phase end where the last of
- * its entries that the audit has taken ends, at 0 if there is none. When a
- * state fits stands at pahyndoi_state; docs/FORMAT.md, 8 and 9, has the exact
- * conditions.
+ * The refusals, in checking order, save that restart checks 27 before 10 and
+ * 11: of those that a call checks, the first that holds is the answer. A chunk
+ * is burned if all its bytes are zero; P says how many chunks at the front of
+ * the device store are burned, N is the ratchet, the number of keys of a chunk.
+ *
+ * What is due is a chunk and a ratchet offset: 0 and 0 at first, behind an item
+ * the next offset of its chunk, and behind offset N - 1 the next chunk at
+ * offset 0. An entry and a filler stand where it is due. A restart item is due
+ * where the offset due is above 0, so in a half-used chunk: it stands in the
+ * next chunk at offset 0, and its number is the offset that was due.
+ *
+ * Data limit and log capacity are the store's, 512 and 8,192 in kind 1. The
+ * covered bytes of a phase end where the last of its entries that the audit has
+ * taken ends, at 0 if there is none. When a state fits stands at
+ * pahyndoi_state; docs/FORMAT.md, 8 and 9, has the exact conditions.
  */
 enum pahyndoi_refusal {
     /* A message or a key handed to the hash has more than 1,048,576 bytes. */
@@ -207,8 +233,8 @@ enum pahyndoi_refusal {
     /* The lengths are not one for each phase, or one is above the log
        capacity. */
     PAHYNDOI_BAD_LENGTHS = 5,
-    /* Open is given a seal length beyond the seal memory, or append or close a
-       state that does not fit. */
+    /* Open is given a seal length beyond the seal memory, or append, close or
+       restart a state that does not fit. */
     PAHYNDOI_STATE_UNFIT = 6,
     /* The phase is not one of the store's. */
     PAHYNDOI_NO_SUCH_PHASE = 7,
@@ -226,14 +252,14 @@ enum pahyndoi_refusal {
     PAHYNDOI_HEADERS_DIFFER = 13,
     /* Behind the P burned chunks, a chunk differs between the two stores. */
     PAHYNDOI_CHUNK_DIFFERS = 14,
-    /* The item is no entry and no filler, or the seal file ends before the
-       item does. */
+    /* The item is no entry, no filler and no restart, or the seal file ends
+       before the item does. */
     PAHYNDOI_BAD_ITEM = 15,
-    /* The item's number is not below P times N (P burned chunks, N keys from
-       each). */
+    /* The chunk in which the item is due is not below P (P burned chunks). */
     PAHYNDOI_ITEM_NOT_DUE = 16,
-    /* The item has another chunk number or ratchet offset than its number
-       gives. */
+    /* The item has another chunk number or ratchet offset than is due, or is a
+       restart where no chunk was cut or with another number than the cut chunk
+       had items. */
     PAHYNDOI_WRONG_PLACE = 17,
     /* The entry names no phase of the store, has a data length outside 1 to
        the data limit, or reaches past its phase's length. */
@@ -244,8 +270,8 @@ enum pahyndoi_refusal {
     PAHYNDOI_AREA_BEYOND = 20,
     /* The item's tag is not the one that its key gives for its message. */
     PAHYNDOI_WRONG_TAG = 21,
-    /* There are fewer than P times N items (P burned chunks, N keys from
-       each). */
+    /* After the last item chunk P at offset 0 is not what is due (P burned
+       chunks). */
     PAHYNDOI_ITEMS_MISSING = 22,
     /* Some phase's log is not covered up to its length. */
     PAHYNDOI_NOT_COVERED = 23,
@@ -256,7 +282,10 @@ enum pahyndoi_refusal {
        outside 1 to 1,024. */
     PAHYNDOI_BAD_PLAN = 25,
     /* A tag of fewer than 16 or more than 32 bytes is wanted. */
-    PAHYNDOI_BAD_TAG_LENGTH = 26
+    PAHYNDOI_BAD_TAG_LENGTH = 26,
+    /* Restart is given a number outside 1 to N - 1 (N keys from each chunk), a
+       state whose offset is not 0, or a store with no burned chunk. */
+    PAHYNDOI_BAD_RESTART = 27
 };
 
 /*
@@ -295,8 +324,11 @@ typedef struct pahyndoi_state pahyndoi_state;
  * Refused in this order: 2, 3, 4, 5, 6 (of 6, a seal length above seal_size
  * alone). A refused open leaves a state of zeros.
  *
- * Close before the state is lost, as at a loss of power: the keys left in a
- * half-used chunk go with it, and the audit then refuses what comes home.
+ * Open with the lengths reached: those of the state after the last call that
+ * was not refused. Where a state was lost with a chunk half used, as by a power
+ * cut, the keys left in that chunk are gone, and a restart is due before the
+ * next append: see pahyndoi_restart. Open can't tell, since a half-used chunk
+ * is burned like any other. Where you can, close before the state is lost.
  *
  * lengths_count counts entries, not bytes. Only the state is written.
  */
@@ -312,7 +344,8 @@ uint64_t pahyndoi_open(pahyndoi_state *state,
  * entry item, 18 bytes and the tag, behind the seal file, sets the chunk in the
  * store to zeros if the offset was 0, and brings the state up to date. The
  * number answered is chunk times N plus offset as the state had them: that of
- * the item, counted from 0, where the calls are a history (docs/FORMAT.md, 10).
+ * the item, counted from 0, where the calls are a history (docs/FORMAT.md, 10)
+ * with no restart; behind a restart it is more.
  *
  * Refused in this order: 2, 3, 6, 7, 8, 9, 10, 11. A refused append alters
  * neither state nor store, logs or seal, and answers the number 0.
@@ -344,10 +377,86 @@ uint64_t pahyndoi_close(pahyndoi_state *state,
                         uint8_t *seal, size_t seal_size);
 
 /*
+ * Goes on behind a chunk whose state a power cut took, and with it the keys
+ * left. Writes one restart item, 13 bytes and the tag, behind the seal file,
+ * sealed by the first key of the state's chunk, which open has made the first
+ * that is not burned; sets that chunk in the store to zeros, and brings the
+ * state up to date as append does. The item holds the number given: how many
+ * items the cut chunk had. The number answered is chunk times N plus offset as
+ * the state had them, so chunk times N.
+ *
+ * Refused in this order: 2, 3, 6, 27, 10, 11. A refused restart alters neither
+ * state nor store, logs or seal, and answers the number 0.
+ *
+ * state, store and seal are written; all bytes but the named ones stay as they
+ * are. The logs are only read.
+ *
+ * The cuts meant are those between two calls. To firmware, a call and the
+ * keeping of what it left are one step: let the supply last for both, or write
+ * in such a way that after a cut all of it stands or nothing. Of a cut in the
+ * middle of a call, with an item half written, or a chunk burned and no item,
+ * nothing is said.
+ *
+ * What firmware does:
+ *
+ *  1. After each call that is not refused it keeps, where a cut takes nothing,
+ *     store, logs and seal as the call left them, and the log lengths and the
+ *     seal length of the state, which is lost at a cut. It never keeps the
+ *     state's key: old keys must be gone, and memory that lasts may still have
+ *     them.
+ *  2. After a cut it opens with the lengths kept.
+ *  3. It walks through the seal file, from byte 0 on, by kinds and sizes, to
+ *     the last item, and takes that item's ratchet offset plus 1. Where this is
+ *     below N the chunk was half used: firmware restarts with it as the number.
+ *     Where it is N the chunk was used up, and where there is no item nothing
+ *     was used: then no restart is due. (The state's offset after the last
+ *     append, close or restart is the same number, or 0 where no restart is
+ *     due. Firmware may keep that as well; not the one after an open, which is
+ *     0 although a restart may be due.)
+ *  4. It goes on as after any open.
+ *
+ * A restart item is an item like any other, at ratchet offset 0: where the next
+ * cut comes right behind it, the next restart has the number 1.
+ *
+ * No call refuses these, the audit does, and nothing mends them later:
+ *  - an append where a restart is due (17);
+ *  - a restart where none is due, or with another number from 1 to N - 1 (17):
+ *    restart right after an open, and only where step 3 says so;
+ *  - an open with other lengths than those reached, and a call after it.
+ * And material that is presented while a restart is due (22): a close in its
+ * place writes nothing, for after an open the offset is 0. Restart, then close.
+ *
+ * What to plan for:
+ *  - The keys left in the cut chunk, up to N - 1, are never used, and the
+ *    restart takes a key of the next. pahyndoi_least_ratchet knows of no cuts:
+ *    count each as a close, and its restart as an entry behind it.
+ *  - Where the cut chunk was the card's last, there is no next: restart is
+ *    refused by 11, and the audit refuses what comes home by 22. Collect the
+ *    card before its last chunk is begun, or close right behind what takes it.
+ *  - The seal memory needs room for the restart item (10). One of
+ *    PAHYNDOI_SEAL_SIZE_OF bytes has it.
+ *  - With N = 1 no chunk is ever half used, and every restart is refused by 27.
+ *
+ * What it costs: whoever takes the controller holds the chunks that are left,
+ * and can make up a cut. They can drop items from the end of the seal file, as
+ * far back as the first one of the last burned chunk, which stays, put a
+ * restart behind and seal what they like; the audit accepts that. So up to
+ * N - 1 items of the last burned chunk are not safe from being dropped. Its
+ * first, and all before, are. A close alone does not help: the chunk stays the
+ * last burned one, until the next entry begins another. Take a smaller N, or,
+ * where entries must be safe at once, close and append one more.
+ */
+uint64_t pahyndoi_restart(pahyndoi_state *state,
+                          uint8_t *store, size_t store_size,
+                          const uint8_t *logs, size_t logs_size,
+                          uint8_t *seal, size_t seal_size,
+                          uint32_t number);
+
+/*
  * Audits a device's store, logs and seal file against the auditor's copy of
  * the unused store. The number answered is the count of items where nothing is
- * refused, the refused item's, counted from 0, with refusals 15 to 21, and 0
- * with the others.
+ * refused (P times N where no restart is among them), the refused item's,
+ * counted from 0, with refusals 15 to 21, and 0 with the others.
  *
  * Refused in this order: 2 to 5 and 12 to 14; then 15 to 21 for one item
  * before the next; then 22 and 23.
@@ -418,7 +527,7 @@ uint64_t pahyndoi_data_at(const uint8_t *device, size_t device_size,
  * It speaks of chunks alone, and is the same for every set. The logs of a card
  * take the log capacity for each phase, so in kind 1 never more than 65,536
  * entries; the seal memory needs 18 bytes and the tag for an entry, 9 and the
- * tag for a filler.
+ * tag for a filler. It knows of no cuts: see pahyndoi_restart.
  *
  * Refused in this order: 25. The number is then 0.
  *
@@ -437,10 +546,11 @@ uint64_t pahyndoi_least_ratchet(const uint32_t *counts, size_t counts_count,
  * hold, whole or in pieces, after
  *
  *   open, least_ratchet    no key of its own; what earlier calls left stays;
- *   append                 the key that sealed the item (at offset 0 the chunk
+ *   append, restart        the key that sealed the item (at offset 0 the chunk
  *                          that it burned), and the key that the state holds;
  *   close                  the keys that sealed the fillers;
- *   append, close refused  the key that the state holds;
+ *   append, close,         the key that the state holds;
+ *   restart refused
  *   audit, item_at,        the auditor's keys of the items that the audit came
  *   data_at                to, and the key due after them;
  *   hmac_sha256            the key, or its digest if it is over 64 bytes, the
@@ -453,13 +563,14 @@ uint64_t pahyndoi_least_ratchet(const uint32_t *counts, size_t counts_count,
  * key: whoever has them makes its tags, and the next key of the chunk.
  *
  * The scheme lives on keys that are gone: overwrite the dead stack after each
- * open, append and close, refused or not. examples/wipe_stack.h does so.
+ * open, append, close and restart, refused or not. examples/wipe_stack.h does
+ * so.
  */
 
 /*
  * The stack that a call uses at most, in bytes below the caller's frame, with
- * arguments and return address: open, append and close; audit, item_at and
- * data_at; sha256, hmac_sha256 and least_ratchet. None depends on the set.
+ * arguments and return address: open, append, close and restart; audit, item_at
+ * and data_at; sha256, hmac_sha256 and least_ratchet. None depends on the set.
  * Measured and read off the machine code for the archive as rt staticlib builds
  * it for x86-64, with 600 bytes and more to spare for memcpy and memset; not
  * proved. Running out of stack is outside the proofs as well.
