@@ -1,6 +1,6 @@
 /* Sealed logs from the plan of their card to the audit, with every call of pahyndoi.h: on a card
-   with a store of kind 1, which has a standby, and on a small card, whose store has a set of
-   parameters of its own. */
+   with a store of kind 1, which has a standby, on one whose controller loses its power, and on a
+   small card, whose store has a set of parameters of its own. */
 
 #include <stdio.h>
 #include <string.h>
@@ -22,10 +22,22 @@ static uint8_t standby_store[sizeof store];
 static uint8_t standby_logs[sizeof logs];
 static uint8_t standby_seal[sizeof seal];
 
+static uint8_t cut_store[sizeof store];
+static uint8_t cut_auditor[sizeof store];
+static uint8_t cut_logs[sizeof logs];
+static uint8_t cut_seal[sizeof seal];
+
 static uint8_t small_store[PAHYNDOI_STORE_SIZE_OF(PAHYNDOI_OWN_SET_HEADER_SIZE, CHUNKS)];
 static uint8_t small_auditor[sizeof small_store];
 static uint8_t small_logs[PAHYNDOI_LOGS_SIZE_OF(LOG_CAPACITY, PHASES)];
 static uint8_t small_seal[PAHYNDOI_SEAL_SIZE_OF(TAG_LENGTH, CHUNKS, RATCHET)];
+
+/* What the state knows and must outlast it: kept where a power cut takes nothing, as the memories
+   are. Zeros on a card that is new. The key is never kept. */
+struct kept {
+    uint32_t lengths[PHASES];
+    uint64_t seal_length;
+};
 
 /* The memories of a card, with the auditor's copy of its unused store, and the state. */
 struct card {
@@ -35,6 +47,7 @@ struct card {
     size_t logs_size;
     uint8_t *seal;
     size_t seal_size;
+    struct kept kept;
     pahyndoi_state state;
 };
 
@@ -106,9 +119,9 @@ static void put_chunks(struct card *card, size_t header_size)
 /* The sealing calls, each in a function of its own, as wipe_stack.h asks. */
 static NEVER_INLINED uint64_t call_open(struct card *card)
 {
-    const uint32_t lengths[PHASES] = {0, 0};
     return pahyndoi_open(&card->state, card->store, card->store_size, card->logs, card->logs_size,
-                         lengths, PHASES, card->seal, card->seal_size, 0);
+                         card->kept.lengths, PHASES, card->seal, card->seal_size,
+                         card->kept.seal_length);
 }
 
 static NEVER_INLINED uint64_t call_append(struct card *card, uint8_t phase, const char *text)
@@ -124,6 +137,20 @@ static NEVER_INLINED uint64_t call_close(struct card *card)
                           card->logs_size, card->seal, card->seal_size);
 }
 
+static NEVER_INLINED uint64_t call_restart(struct card *card, uint32_t number)
+{
+    return pahyndoi_restart(&card->state, card->store, card->store_size, card->logs,
+                            card->logs_size, card->seal, card->seal_size, number);
+}
+
+/* The lengths reached, after each call that has written. With the memories as the call left them
+   they must be taken over as one: the power may go before or after that, not between. */
+static void keep(struct card *card)
+{
+    memcpy(card->kept.lengths, card->state.lengths, sizeof card->kept.lengths);
+    card->kept.seal_length = card->state.seal_length;
+}
+
 /* And each followed by the wipe: the keys that the call used must be gone. */
 static uint64_t open_store(struct card *card)
 {
@@ -136,6 +163,7 @@ static uint64_t append(struct card *card, uint8_t phase, const char *text)
 {
     uint64_t answer = call_append(card, phase, text);
     wipe_stack();
+    keep(card);
     return answer;
 }
 
@@ -143,7 +171,60 @@ static uint64_t close_store(struct card *card)
 {
     uint64_t answer = call_close(card);
     wipe_stack();
+    keep(card);
     return answer;
+}
+
+static uint64_t restart(struct card *card, uint32_t number)
+{
+    uint64_t answer = call_restart(card, number);
+    wipe_stack();
+    keep(card);
+    return answer;
+}
+
+static uint32_t get_number(const uint8_t bytes[4])
+{
+    uint32_t number = 0;
+    for (size_t i = 0; i < 4; i++)
+        number |= (uint32_t)bytes[i] << (8 * i);
+    return number;
+}
+
+/* Where no key is held any more: with what number a restart is due, 0 where none is. The last item
+   of the seal file tells, by its ratchet offset: so many keys of its chunk were used, and one. With
+   all of them used, or with no item, nothing was cut. */
+static uint32_t restart_due(const struct card *card)
+{
+    uint32_t used = 0;
+    size_t place = 0;
+    while (place < card->kept.seal_length) {
+        const uint8_t *item = card->seal + place;
+        if (item[0] == PAHYNDOI_ENTRY_KIND) {
+            used = get_number(item + PAHYNDOI_ENTRY_OFFSET_PLACE) + 1;
+            place += PAHYNDOI_ENTRY_SIZE;
+        } else if (item[0] == PAHYNDOI_FILLER_KIND) {
+            used = get_number(item + PAHYNDOI_FILLER_OFFSET_PLACE) + 1;
+            place += PAHYNDOI_FILLER_SIZE;
+        } else {
+            used = get_number(item + PAHYNDOI_RESTART_OFFSET_PLACE) + 1;
+            place += PAHYNDOI_RESTART_SIZE;
+        }
+    }
+    return used < RATCHET ? used : 0;
+}
+
+/* The power goes, and with it the state. It comes back: the controller opens with the lengths kept,
+   and restarts where a chunk was cut. */
+static void lose_power(struct card *card)
+{
+    uint32_t number;
+    memset(&card->state, 0, sizeof card->state);
+    print_answer("power cut, open", open_store(card));
+    number = restart_due(card);
+    printf("restart due: number %u\n", (unsigned)number);
+    if (number > 0)
+        print_answer("restart", restart(card, number));
 }
 
 /* The lengths that the state holds, 4 bytes each. */
@@ -253,6 +334,31 @@ static void use_card(void)
     use_standby(&card);
 }
 
+/* A store of kind 1 whose controller loses its power twice: between two entries, with a chunk half
+   used, and behind a close, where nothing is lost. */
+static void use_card_through_cuts(void)
+{
+    static struct card card = {.store = cut_store, .auditor = cut_auditor,
+                               .store_size = sizeof cut_store,
+                               .logs = cut_logs, .logs_size = sizeof cut_logs,
+                               .seal = cut_seal, .seal_size = sizeof cut_seal};
+    put_fields(cut_store, PAHYNDOI_COMMON_SET_KIND);
+    put_chunks(&card, PAHYNDOI_HEADER_SIZE);
+
+    print_answer("card with cuts, open", open_store(&card));
+    print_answer("restart of a new card", restart(&card, 1));
+    print_answer("append", append(&card, 1, "door opened"));
+    print_answer("append", append(&card, 2, "fan at 40 %"));
+    print_answer("restart without a cut", restart(&card, 2));
+    lose_power(&card);
+    print_bytes("restart item", cut_seal + 2 * PAHYNDOI_ENTRY_SIZE, PAHYNDOI_RESTART_SIZE);
+    print_answer("append", append(&card, 1, "door shut"));
+    print_answer("close", close_store(&card));
+    lose_power(&card);
+    print_answer("audit", audit(&card));
+    look_up(&card, 1, 11);
+}
+
 /* A store of kind 6, and memories sized by its set. Refused are a set with tags of 15 bytes, data a
    byte longer than the limit, and the audit beside a store with another set. */
 static void use_small_card(void)
@@ -290,6 +396,7 @@ int main(void)
     hash_known();
     plan_card();
     use_card();
+    use_card_through_cuts();
     use_small_card();
     return 0;
 }
