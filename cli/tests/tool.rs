@@ -28,6 +28,8 @@ mod plan_usage;
 mod random;
 #[path = "tool/refusals.rs"]
 mod refusals;
+#[path = "tool/restarts.rs"]
+mod restarts;
 #[path = "tool/run.rs"]
 mod run;
 #[path = "tool/set_refusals.rs"]

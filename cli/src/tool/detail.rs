@@ -4,7 +4,8 @@
 use pahyndoi::{Material, Rejected};
 
 use super::coverage::Coverage;
-use super::item::{Area, Item};
+use super::due::Due;
+use super::item::{Area, Content, Item};
 use super::reading::Reading;
 use super::store::{Header, burned_at_front, chunks, is_burned};
 use super::text::{counted, grouped};
@@ -134,13 +135,15 @@ fn differing_chunk(material: &Material) -> Option<String> {
 
 fn item_detail(header: &Header, reading: &Reading, rejected: &Rejected) -> Option<String> {
     let number = rejected.item? as usize;
+    let before = reading.items.get(..number)?;
+    let due = Due::behind(before, header.ratchet);
     let Some(item) = reading.items.get(number) else {
         let damage = reading.damage?;
-        return Some(format!("Damaged from {damage}."));
+        return Some(format!("Damaged from {damage}. Due is {}.", due.words()));
     };
     let more = match rejected.refusal.0 {
-        16 => keys_sentence(header, &reading.material),
-        17 => position_sentence(header, number),
+        16 => format!("{} {}", due_sentence(item, due), burned_sentence(reading)),
+        17 => due_sentence(item, due),
         18 => area_sentence(header, reading, item).unwrap_or_default(),
         19 => below_sentences(reading, item).unwrap_or_default(),
         20 => beyond_sentences(reading, item).unwrap_or_default(),
@@ -155,14 +158,15 @@ fn item_detail(header: &Header, reading: &Reading, rejected: &Rejected) -> Optio
 
 pub fn item_sentence(item: &Item) -> String {
     let Item { chunk, ratchet, .. } = item;
-    let kind = match item.area {
-        Some(area) => format!(
+    let kind = match item.content {
+        Content::Entry(area) => format!(
             "an entry of phase {}, offset {}, {}",
             area.phase,
             grouped(area.offset.into()),
             counted(area.length as usize, "byte"),
         ),
-        None => "a filler".to_string(),
+        Content::Filler => "a filler".to_string(),
+        Content::Restart(number) => format!("a restart with the number {number}"),
     };
     format!(
         "At byte {} of the seal file stands {kind}, chunk {chunk}, ratchet offset {ratchet}.",
@@ -170,24 +174,25 @@ pub fn item_sentence(item: &Item) -> String {
     )
 }
 
-fn keys_sentence(header: &Header, material: &Material) -> String {
-    let burned = burned_at_front(material.device_store);
-    let (ratchet, keys) = (header.ratchet, header.keys_of(burned));
-    format!(
-        "P is {burned} and N is {ratchet}: {}.",
-        counted(keys, "item")
-    )
+/// What is due at the item, and that no restart is, where one stands.
+fn due_sentence(item: &Item, due: Due) -> String {
+    let words = due.words();
+    match item.content {
+        Content::Restart(_) if !due.is_half_used() => {
+            format!("Due is {words}, and no restart: no chunk is half used.")
+        }
+        _ => format!("Due is {words}."),
+    }
 }
 
-fn position_sentence(header: &Header, number: usize) -> String {
-    let ratchet = header.ratchet as usize;
-    let (chunk, offset) = (number / ratchet, number % ratchet);
-    format!("Item {number} ought to have chunk {chunk}, ratchet offset {offset}.")
+fn burned_sentence(reading: &Reading) -> String {
+    let burned = burned_at_front(reading.material.device_store);
+    format!("P is {burned}.")
 }
 
 /// The first part of rule 18 that the item's area meets.
 fn area_sentence(header: &Header, reading: &Reading, item: &Item) -> Option<String> {
-    let (area, phases) = (item.area?, header.phases);
+    let (area, phases) = (item.area()?, header.phases);
     if !(1..=phases).contains(&area.phase) {
         return Some(phases_sentence(phases));
     }
@@ -207,9 +212,9 @@ fn area_sentence(header: &Header, reading: &Reading, item: &Item) -> Option<Stri
 /// The earlier items of a refused item's phase, the last one first. They are
 /// taken, so each ends where the next one of the phase begins.
 fn earlier_areas(reading: &Reading, item: &Item) -> impl Iterator<Item = (usize, Area)> {
-    let phase = item.area.map(|area| area.phase);
+    let phase = item.area().map(|area| area.phase);
     let earlier = reading.items[..item.number].iter().rev();
-    let areas = earlier.filter_map(|other| Some((other.number, other.area?)));
+    let areas = earlier.filter_map(|other| Some((other.number, other.area()?)));
     areas.filter(move |(_, area)| Some(area.phase) == phase)
 }
 
@@ -226,7 +231,7 @@ fn end_sentence(end: u64) -> String {
 
 /// The covered end, and which earlier item holds the byte at the item's offset.
 fn below_sentences(reading: &Reading, item: &Item) -> Option<String> {
-    let offset = u64::from(item.area?.offset);
+    let offset = u64::from(item.area()?.offset);
     let (number, area) = earlier_areas(reading, item).find(|(_, area)| {
         let bytes = area.bytes(reading.set);
         bytes.is_some_and(|bytes| bytes.contains(&offset))
@@ -242,7 +247,7 @@ fn below_sentences(reading: &Reading, item: &Item) -> Option<String> {
 
 /// The covered end, and the bytes from there to the item's offset.
 fn beyond_sentences(reading: &Reading, item: &Item) -> Option<String> {
-    let (end, offset) = (covered_end(reading, item), u64::from(item.area?.offset));
+    let (end, offset) = (covered_end(reading, item), u64::from(item.area()?.offset));
     let last = offset.checked_sub(1)?;
     let bytes = match end == last {
         true => format!("byte {}", grouped(end)),
@@ -254,10 +259,20 @@ fn beyond_sentences(reading: &Reading, item: &Item) -> Option<String> {
     ))
 }
 
+/// What is due at the end, and what would have to be.
 fn missing_detail(header: &Header, reading: &Reading) -> String {
     let sealed = counted(reading.items.len(), "item");
-    let keys = keys_sentence(header, &reading.material);
-    format!("The seal file has {sealed}. {keys}")
+    let due = Due::behind(&reading.items, header.ratchet);
+    let burned = burned_at_front(reading.material.device_store);
+    let half_used = match due.is_half_used() {
+        true => format!(" Chunk {} is half used.", due.chunk),
+        false => String::new(),
+    };
+    format!(
+        "The seal file has {sealed}. Due after them is {due}, and P is {burned}: it would have to \
+         be {}.{half_used}",
+        Due::start_of(burned as u64)
+    )
 }
 
 fn gap_detail(reading: &Reading) -> Option<String> {

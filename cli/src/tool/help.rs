@@ -20,9 +20,9 @@ last, 2 bad usage or a file that can't be read or written.
 ";
 
 pub const DEMO: &str = "\
-Seals a junction's day of counts through the proved library and audits it;
-then an intruder alters the material in several ways, and each is audited.
-The demo's keys come from a fixed seed: they are not random.
+Seals a junction's day of counts through the proved library, with a power cut in
+it, and audits it; then an intruder alters the material in several ways, and
+each is audited. The demo's keys come from a fixed seed: they are not random.
 
 Usage: pahyndoi demo [--out FOLDER]
 
@@ -46,9 +46,16 @@ In FOLDER are looked for, and each flag names another file instead:
   --seal FILE     seal.bin, the seal file
 
   --json          print one JSON object: verdict, items (the count when
-                  accepted), rule, item, reason, detail, files; with exit
-                  status 2 there is none, only the error for people
+                  accepted), restarts (when accepted; of item, chunk, and
+                  number, how many items the chunk before has), rule, item,
+                  reason, detail, files; with exit status 2 there is none, only
+                  the error for people
   --no-picture    leave out the picture of what the items cover
+
+A restart in accepted material says that the power was lost behind the item
+before it, and the keys left in that item's chunk with it. Whoever has taken the
+controller can make that up, and drop what was sealed behind the first item of
+the last burned chunk; what stands up to that item can't be dropped.
 
 At most 64 MiB (67,108,864 bytes) of a file are read; a longer one is an error.
 The longest seal file that can be accepted has 13,107,200 bytes.
@@ -93,7 +100,9 @@ Exit status: 0 found, 1 refused, 2 bad usage or a file that can't be read.
 pub const DUMP: &str = "\
 Lists the items of a seal file: number, kind, phase, offset and data length in
 the phase's log, chunk number, ratchet offset, and the first bytes of the tag.
-No tag is checked; that takes an audit.
+A restart, which follows a loss of power, has a number in their place: of how
+many items it says that the chunk before has. No tag is checked; that takes an
+audit.
 
 Of a key store, which the first byte of FILE tells (1 or 6), it says what the
 header says: id, phases, chunks and how many are burned, ratchet, and the set of
@@ -106,12 +115,12 @@ Usage: pahyndoi dump FILE [--store STORE] [--json]
                   read as of 32 bytes, which a store of kind 1 has
 
   --json          print one JSON object: of a seal file content (seal), set
-                  (tag_length, data_limit, log_capacity), items (of item, place
-                  in the file, chunk, ratchet, area, null of a filler, and tag),
-                  detail (the damage, else null); of a key store content
-                  (store), kind, id, phases, chunks, burned, ratchet, set,
-                  detail; with exit status 2 there is none, only the error for
-                  people
+                  (tag_length, data_limit, log_capacity), items (of item, kind,
+                  place in the file, chunk, ratchet, area, null but of an entry,
+                  number, null but of a restart, and tag), detail (the damage,
+                  else null); of a key store content (store), kind, id, phases,
+                  chunks, burned, ratchet, set, detail; with exit status 2 there
+                  is none, only the error for people
 
 At most 64 MiB (67,108,864 bytes) are read; a longer file is an error.
 
@@ -192,14 +201,18 @@ refused by rule 25.
 The plan is of chunks alone. The logs of a card of kind 1 take 8,192 bytes a
 phase, so never more than 65,536 entries; a longer plan is answered, and what
 logs it takes is said. In the seal memory an entry takes 18 bytes and its tag, a
-filler 9 and its tag; with kind 1 that is 50 and 41.
+filler 9 and its tag, a restart 13 and its tag; with kind 1 that is 50, 41 and
+45.
+
+It knows of no power cuts. Count each that you reckon with as a close, and the
+restart behind it as an entry.
 
 Exit status: 0 found, 1 refused or none lasts, 2 bad usage.
 ";
 
 #[cfg(test)]
 mod tests {
-    use super::super::item::{entry_length, filler_length};
+    use super::super::item::{entry_length, filler_length, restart_length};
     use super::super::set::{DATA_LIMITS, LOG_CAPACITIES, Set, TAG_LENGTHS};
     use super::super::text::grouped;
     use super::*;
@@ -231,8 +244,9 @@ mod tests {
             assert_says(help, &format!("the store, {capacity} bytes with kind 1"));
         }
         assert_says(PLAN_RATCHET, &format!("kind 1 take {capacity} bytes a"));
-        let (entry, filler) = (entry_length(Set::COMMON), filler_length(Set::COMMON));
-        let words = format!("with kind 1 that is {entry} and {filler}.");
+        let lengths = [entry_length, filler_length, restart_length];
+        let [entry, filler, restart] = lengths.map(|length| length(Set::COMMON));
+        let words = format!("with kind 1 that is {entry}, {filler} and\n{restart}.");
         assert_says(PLAN_RATCHET, &words);
     }
 }

@@ -61,7 +61,7 @@ impl<'a> Lookup<'a> {
                 let item = &reading.items[number as usize];
                 Ok(Found {
                     item,
-                    area: item.area.expect("an entry"),
+                    area: item.area().expect("an entry"),
                     data: data_at(&reading.material, phase, offset),
                     offset,
                 })

@@ -6,6 +6,7 @@ mod commands;
 mod coverage;
 mod demo;
 mod detail;
+mod due;
 mod dump;
 mod evidence;
 mod excerpt;

@@ -19,10 +19,11 @@ const NUMBERS_LISTED: usize = 8;
 
 const LEGEND: &str = "\
 Coverage of the logs. The covered bytes of a phase run from 0 on, and an item
-that begins where they end covers its own. Each cell of a bar stands for equally
-many bytes, give or take one: a-z the item at its first byte (after z comes a),
-< if it begins below the covered end, > if beyond, . no item, - an item on a
-part of the cell, * bytes that items share, ! the refused item.
+that begins where they end covers its own; fillers and restarts have none. Each
+cell of a bar stands for equally many bytes, give or take one: a-z the item at
+its first byte (after z comes a), < if it begins below the covered end, > if
+beyond, . no item, - an item on a part of the cell, * bytes that items share,
+! the refused item.
 ";
 
 /// Draws all logs, and tells what could not be drawn.
@@ -165,9 +166,12 @@ fn in_columns(cells: &[String]) -> String {
     text
 }
 
-/// The fillers, the entries that are in no log, and the damage.
+/// The fillers, the restarts, the entries that are in no log, and the damage.
 fn remarks(coverage: &Coverage, damage: Option<Damage>) -> String {
     let mut text = format!("Besides these: {}.\n", counted(coverage.fillers, "filler"));
+    if !coverage.restarts.is_empty() {
+        text += &wrapped("", &format!("Restarts: {}.", numbered(&coverage.restarts)));
+    }
     if !coverage.outside.is_empty() {
         text += &wrapped("", &outside_sentence(&coverage.outside));
     }

@@ -121,7 +121,7 @@ impl Header {
         self.set().log_capacity as usize * usize::from(self.phases)
     }
 
-    /// The keys, and so the items, of this many chunks.
+    /// The keys of this many chunks. Each seals one item at most.
     pub fn keys_of(&self, chunks: usize) -> usize {
         chunks * self.ratchet as usize
     }

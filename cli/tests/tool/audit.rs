@@ -20,10 +20,11 @@ fn accepted_with_picture() {
 ACCEPTED: 6 items.
 
 Coverage of the logs. The covered bytes of a phase run from 0 on, and an item
-that begins where they end covers its own. Each cell of a bar stands for equally
-many bytes, give or take one: a-z the item at its first byte (after z comes a),
-< if it begins below the covered end, > if beyond, . no item, - an item on a
-part of the cell, * bytes that items share, ! the refused item.
+that begins where they end covers its own; fillers and restarts have none. Each
+cell of a bar stands for equally many bytes, give or take one: a-z the item at
+its first byte (after z comes a), < if it begins below the covered end, > if
+beyond, . no item, - an item on a part of the cell, * bytes that items share,
+! the refused item.
 
 Phase 1: 3 items, 30 of 30 bytes covered
   |aaaaaaaaaabbbbbbbbbbcccccccccc|
@@ -58,8 +59,8 @@ fn json_of_accepted_material() {
     let folder = small_folder("json");
     let whole = folder.whole();
     let expected = format!(
-        "{{\"verdict\":\"accepted\",\"items\":6,\"rule\":null,\"item\":null,\"reason\":null,\
-         \"detail\":null,\"files\":{{\"device\":\"{whole}/device.store\",\
+        "{{\"verdict\":\"accepted\",\"items\":6,\"restarts\":[],\"rule\":null,\"item\":null,\
+         \"reason\":null,\"detail\":null,\"files\":{{\"device\":\"{whole}/device.store\",\
          \"auditor\":\"{whole}/auditor.store\",\"logs\":\"{whole}/logs.bin\",\
          \"lengths\":\"{whole}/lengths.bin\",\"seal\":\"{whole}/seal.bin\"}}}}\n"
     );
@@ -73,7 +74,7 @@ fn json_of_refused_material_is_escaped() {
     seal[ENTRY - 1] ^= 1;
     let odd = folder.write("a \"seal\"\n\\.bin", &seal);
     let text = folder.audit(&["--json", "--seal", &odd]).ended(1);
-    let expected = r#"{"verdict":"refused","items":null,"rule":21,"item":0,"reason":"the item's tag is not the one that its key gives for its message","detail":"At byte 0 of the seal file stands an entry of phase 1, offset 0, 10 bytes, chunk 0, ratchet offset 0.","files":{"#;
+    let expected = r#"{"verdict":"refused","items":null,"restarts":null,"rule":21,"item":0,"reason":"the item's tag is not the one that its key gives for its message","detail":"At byte 0 of the seal file stands an entry of phase 1, offset 0, 10 bytes, chunk 0, ratchet offset 0.","files":{"#;
     assert!(text.starts_with(expected), "{text}");
     assert!(
         text.ends_with("/a \\\"seal\\\"\\u000a\\\\.bin\"}}\n"),
@@ -88,11 +89,11 @@ fn json_of_an_item_off_the_covered_end() {
     for (offset, start) in [
         (
             9,
-            r#"{"verdict":"refused","items":null,"rule":19,"item":2,"reason":"the entry begins below the end of its phase's covered bytes","detail":"At byte 100 of the seal file stands an entry of phase 1, offset 9, 10 bytes, chunk 0, ratchet offset 2. The phase's covered bytes end at 10. Item 0, with offset 0 and 10 bytes, holds byte 9.","files":{"#,
+            r#"{"verdict":"refused","items":null,"restarts":null,"rule":19,"item":2,"reason":"the entry begins below the end of its phase's covered bytes","detail":"At byte 100 of the seal file stands an entry of phase 1, offset 9, 10 bytes, chunk 0, ratchet offset 2. The phase's covered bytes end at 10. Item 0, with offset 0 and 10 bytes, holds byte 9.","files":{"#,
         ),
         (
             11,
-            r#"{"verdict":"refused","items":null,"rule":20,"item":2,"reason":"the entry begins beyond the end of its phase's covered bytes","detail":"At byte 100 of the seal file stands an entry of phase 1, offset 11, 10 bytes, chunk 0, ratchet offset 2. The phase's covered bytes end at 10. No earlier item holds byte 10.","files":{"#,
+            r#"{"verdict":"refused","items":null,"restarts":null,"rule":20,"item":2,"reason":"the entry begins beyond the end of its phase's covered bytes","detail":"At byte 100 of the seal file stands an entry of phase 1, offset 11, 10 bytes, chunk 0, ratchet offset 2. The phase's covered bytes end at 10. No earlier item holds byte 10.","files":{"#,
         ),
     ] {
         let folder = small_folder("json-covered-end");
@@ -198,8 +199,8 @@ fn picture_ends_at_damage() {
         text.contains("  |aaaaaaaaaabbbbbbbbbb..........|\n"),
         "{text}"
     );
-    let damage =
-        "Damaged from item 3 at byte 150: its kind is 0, neither 2 (entry) nor 3 (filler).";
+    let damage = "Damaged from item 3 at byte 150: its kind is 0, not 2 (entry), 3 (filler) or 5 \
+                  (restart). Due is chunk 1, ratchet offset 0.";
     assert!(joined(&text).contains(damage), "{text}");
 }
 

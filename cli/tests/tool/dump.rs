@@ -54,8 +54,8 @@ fn unknown_kind() {
         text.lines().filter(|line| line.contains("entry  ")).count(),
         2
     );
-    let damage =
-        "Damaged from item 2 at byte 100: its kind is 255, neither 2 (entry) nor 3 (filler).";
+    let damage = "Damaged from item 2 at byte 100: its kind is 255, not 2 (entry), 3 (filler) or 5 \
+                  (restart).";
     assert!(joined(&text).ends_with(damage), "{text}");
 }
 

@@ -98,7 +98,7 @@ fn short_tags_without_their_store() {
     let text = run(&["dump", &folder.path("seal.bin")]).ended(1);
     assert_narrow(&text);
     let expected = "Without --store, tags are read as of 32 bytes. Damaged from item 1 at byte 50: \
-                    its kind is 0, neither 2 (entry) nor 3 (filler).";
+                    its kind is 0, not 2 (entry), 3 (filler) or 5 (restart).";
     assert!(joined(&text).ends_with(expected), "{text}");
 }
 
@@ -111,10 +111,11 @@ fn items_json(set: Set, seal: &[u8], count: usize) -> String {
         let area = areas.get(number).map_or("null".to_string(), |(phase, offset, length)| {
             format!(r#"{{"phase":{phase},"offset":{offset},"length":{length}}}"#)
         });
+        let kind = if number < areas.len() { "entry" } else { "filler" };
         let (chunk, ratchet) = (number / 3, number % 3);
         let tag = hexadecimal(&seal[end - length..end]);
         format!(
-            r#"{{"item":{number},"place":{place},"chunk":{chunk},"ratchet":{ratchet},"area":{area},"tag":"{tag}"}}"#
+            r#"{{"item":{number},"kind":"{kind}","place":{place},"chunk":{chunk},"ratchet":{ratchet},"area":{area},"number":null,"tag":"{tag}"}}"#
         )
     });
     items.take(count).collect::<Vec<_>>().join(",")
@@ -170,7 +171,7 @@ fn json_of_damage() {
     let json = run(&["dump", &seal, "--store", &store, "--json"]).ended(1);
     let expected = format!(
         "{{\"content\":\"seal\",\"set\":{},\"items\":[{}],\"detail\":\"Damaged from item 4 at \
-         byte 136: its kind is 9, neither 2 (entry) nor 3 (filler).\"}}\n",
+         byte 136: its kind is 9, not 2 (entry), 3 (filler) or 5 (restart).\"}}\n",
         set_json(smallest),
         items_json(smallest, &files.seal, 4)
     );
@@ -227,6 +228,7 @@ fn store_in_the_place_of_a_seal_file() {
     let mut files = small_with(set(16, 1, 512));
     files.seal = files.device.clone();
     let text = dump_with("two-stores", "device.store", &files).ended(1);
-    let damage = "Damaged from item 0 at byte 0: its kind is 6, neither 2 (entry) nor 3 (filler).";
+    let damage =
+        "Damaged from item 0 at byte 0: its kind is 6, not 2 (entry), 3 (filler) or 5 (restart).";
     assert!(joined(&text).ends_with(damage), "{text}");
 }

@@ -22,7 +22,7 @@ Key store of kind 6, 59 bytes.
   phases        1
   chunks        1, 0 of them burned
   ratchet       1 key from each chunk, 1 in all
-  tag length    16 bytes; an entry takes 34 of the seal file, a filler 25
+  tag length    16 bytes; an entry takes 34 bytes, a filler 25, a restart 29
   data limit    1 byte
   log capacity  512 bytes; the log memory takes 512
 ";
@@ -35,7 +35,7 @@ Key store of kind 6, 32,795 bytes.
   phases        8
   chunks        1,024, 4 of them burned
   ratchet       256 keys from each chunk, 262,144 in all
-  tag length    32 bytes; an entry takes 50 of the seal file, a filler 41
+  tag length    32 bytes; an entry takes 50 bytes, a filler 41, a restart 45
   data limit    4,096 bytes
   log capacity  65,536 bytes; the log memory takes 524,288
 ";
@@ -53,7 +53,7 @@ Key store of kind 1, 114 bytes.
   phases        2
   chunks        3, 2 of them burned
   ratchet       3 keys from each chunk, 9 in all
-  tag length    32 bytes; an entry takes 50 of the seal file, a filler 41
+  tag length    32 bytes; an entry takes 50 bytes, a filler 41, a restart 45
   data limit    512 bytes
   log capacity  8,192 bytes; the log memory takes 16,384
 ";

@@ -1,12 +1,13 @@
 //! Material that a controller sealed, as files.
 
 use pahyndoi::model::{Header, Set};
-use pahyndoi::{State, append, close, open};
+use pahyndoi::{Refusal, State, append, close, open, restart};
 
 use crate::folder::Folder;
 
 pub const ENTRY: usize = 50;
 pub const FILLER: usize = 41;
+pub const RESTART: usize = 45;
 
 #[derive(Clone)]
 pub struct Files {
@@ -119,25 +120,104 @@ pub fn sealed(unused: Vec<u8>, lengths: &[u32], entries: &[(u8, &[u8])]) -> File
 
 /// The same, and once more for each part, be its lengths those reached or not.
 pub fn sealed_in_parts(unused: Vec<u8>, parts: &[Part]) -> Files {
-    let mut store = unused.clone();
-    let header = Header::parse(&unused).expect("a store");
-    let mut logs = vec![0; header.log_memory_length()];
-    let mut seal = vec![0; 4000];
-    let mut state = State::default();
+    let mut device = Device::new(unused);
     for (lengths, entries) in parts {
-        state = open(&store, &logs, lengths, &seal, state.seal_length).expect("open");
-        for (phase, data) in *entries {
-            append(&mut state, &mut store, &mut logs, &mut seal, *phase, data).expect("append");
-        }
-        close(&mut state, &store, &logs, &mut seal).expect("close");
+        device.open(lengths);
+        device.append_all(entries);
+        device.close();
     }
-    seal.truncate(state.seal_length as usize);
-    Files {
-        device: store,
-        auditor: unused,
-        logs,
-        lengths: little_endian(&state.lengths[..usize::from(header.phases)]),
-        seal,
+    device.files()
+}
+
+/// A controller, call by call.
+pub struct Device {
+    unused: Vec<u8>,
+    store: Vec<u8>,
+    logs: Vec<u8>,
+    seal: Vec<u8>,
+    state: State,
+}
+
+impl Device {
+    pub fn new(unused: Vec<u8>) -> Device {
+        let header = Header::parse(&unused).expect("a store");
+        Device {
+            store: unused.clone(),
+            unused,
+            logs: vec![0; header.log_memory_length()],
+            seal: vec![0; 4000],
+            state: State::default(),
+        }
+    }
+
+    /// As somebody has it who took these files and dropped the end of the seal
+    /// file, with the logs cut to these lengths.
+    pub fn taken(files: &Files, seal_length: usize, lengths: &[u32]) -> Device {
+        let mut device = Device::new(files.auditor.clone());
+        device.store.clone_from(&files.device);
+        device.logs.clone_from(&files.logs);
+        device.seal[..seal_length].copy_from_slice(&files.seal[..seal_length]);
+        device.state.seal_length = seal_length as u64;
+        device.open(lengths);
+        device
+    }
+
+    /// With these log lengths and the seal length reached.
+    pub fn open(&mut self, lengths: &[u32]) {
+        let length = self.state.seal_length;
+        self.state = open(&self.store, &self.logs, lengths, &self.seal, length).expect("open");
+    }
+
+    pub fn append_all(&mut self, entries: &[(u8, &[u8])]) {
+        let Device {
+            state,
+            store,
+            logs,
+            seal,
+            ..
+        } = self;
+        for (phase, data) in entries {
+            append(state, store, logs, seal, *phase, data).expect("append");
+        }
+    }
+
+    pub fn close(&mut self) {
+        close(&mut self.state, &self.store, &self.logs, &mut self.seal).expect("close");
+    }
+
+    /// The power goes and comes back, and the device opens with the lengths
+    /// reached.
+    pub fn lose_power(&mut self) {
+        let phases = Header::parse(&self.unused).expect("a store").phases;
+        let lengths = self.state.lengths[..usize::from(phases)].to_vec();
+        self.state = State {
+            seal_length: self.state.seal_length,
+            ..State::default()
+        };
+        self.open(&lengths);
+    }
+
+    pub fn restart(&mut self, number: u32) -> Result<u64, Refusal> {
+        let Device {
+            state,
+            store,
+            logs,
+            seal,
+            ..
+        } = self;
+        restart(state, store, logs, seal, number)
+    }
+
+    /// As they stand.
+    pub fn files(&self) -> Files {
+        let phases = Header::parse(&self.unused).expect("a store").phases;
+        Files {
+            device: self.store.clone(),
+            auditor: self.unused.clone(),
+            logs: self.logs.clone(),
+            lengths: little_endian(&self.state.lengths[..usize::from(phases)]),
+            seal: self.seal[..self.state.seal_length as usize].to_vec(),
+        }
     }
 }
 

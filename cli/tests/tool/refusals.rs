@@ -6,6 +6,9 @@ use crate::folder::Folder;
 use crate::material::{ENTRY, Files, Part, sealed, sealed_in_parts, small, store};
 use crate::run::{assert_narrow, joined};
 
+/// What the audit says for machines, and a lookup does not.
+const OF_THE_AUDIT: &str = r#""items":null,"restarts":null,"#;
+
 /// Audits the material after the change: the rule, the item and the words.
 fn refused(rule: u32, item: Option<u32>, words: &str, change: impl Fn(&mut Files)) {
     let mut files = small();
@@ -31,14 +34,14 @@ pub fn refused_files(rule: u32, item: Option<u32>, words: &str, files: &Files) {
     assert_eq!(line, unchecked(rule, item).as_deref());
     let json = folder.audit(&["--json"]).ended(1);
     let item = item.map_or("null".to_string(), |item| item.to_string());
-    let start = format!(r#"{{"verdict":"refused","items":null,"rule":{rule},"item":{item},"#);
+    let start = format!(r#"{{"verdict":"refused",{OF_THE_AUDIT}"rule":{rule},"item":{item},"#);
     assert!(json.starts_with(&start), "{json}");
     looked_up(&folder, &text, &json);
 }
 
 /// A lookup says the same, be there such a byte or not.
 fn looked_up(folder: &Folder, text: &str, json: &str) {
-    let of_the_audit = json.replace(r#""items":null,"#, "");
+    let of_the_audit = json.replace(OF_THE_AUDIT, "");
     let (same, files) = of_the_audit.split_once(r#""files":"#).expect("files");
     for (phase, offset) in [("1", "0"), ("0", "8192")] {
         assert_eq!(folder.item(phase, offset, &[]).ended(1), text);
@@ -122,14 +125,20 @@ fn rule_14() {
 
 #[test]
 fn rule_15() {
-    let rule = "the item is no entry and no filler, or the seal file ends before the item does.";
-    let words = format!(
-        "{rule} Damaged from item 1 at byte 50: its kind is 7, neither 2 (entry) nor 3 (filler)."
-    );
-    refused(15, Some(1), &words, |files| files.seal[ENTRY] = 7);
+    let rule = "the item is no entry, no filler and no restart, or the seal file ends before the \
+                item does.";
+    for kind in [0, 1, 4, 6, 7] {
+        let words = format!(
+            "{rule} Damaged from item 1 at byte 50: its kind is {kind}, not 2 (entry), 3 (filler) \
+             or 5 (restart). Due is chunk 0, ratchet offset 1, or a restart with the number 1, \
+             chunk 1, ratchet offset 0."
+        );
+        refused(15, Some(1), &words, |files| files.seal[ENTRY] = kind);
+    }
     let words = format!(
         "{rule} Damaged from item 5 at byte 250: it takes 41 bytes and the file ends after 40 of \
-         them."
+         them. Due is chunk 1, ratchet offset 2, or a restart with the number 2, chunk 2, ratchet \
+         offset 0."
     );
     refused(15, Some(5), &words, |files| {
         files.seal.pop();
@@ -138,9 +147,9 @@ fn rule_15() {
 
 #[test]
 fn rule_16() {
-    let words = "the item's number is not below P times N (P burned chunks, N keys from each). At \
-                 byte 291 of the seal file stands an entry of phase 1, offset 0, 10 bytes, chunk \
-                 0, ratchet offset 0. P is 2 and N is 3: 6 items.";
+    let words = "the chunk in which the item is due is not below P (P burned chunks). At byte 291 \
+                 of the seal file stands an entry of phase 1, offset 0, 10 bytes, chunk 0, ratchet \
+                 offset 0. Due is chunk 2, ratchet offset 0. P is 2.";
     refused(16, Some(6), words, |files| {
         files.seal.extend_from_within(..ENTRY);
     });
@@ -148,9 +157,11 @@ fn rule_16() {
 
 #[test]
 fn rule_17() {
-    let words = "the item has another chunk number or ratchet offset than its number gives. \
-                 At byte 50 of the seal file stands an entry of phase 1, offset 10, 10 bytes, \
-                 chunk 0, ratchet offset 2. Item 1 ought to have chunk 0, ratchet offset 1.";
+    let words = "the item has another chunk number or ratchet offset than is due, or is a restart \
+                 where no chunk was cut or with another number than the cut chunk had items. At \
+                 byte 50 of the seal file stands an entry of phase 1, offset 10, 10 bytes, chunk \
+                 0, ratchet offset 2. Due is chunk 0, ratchet offset 1, or a restart with the \
+                 number 1, chunk 1, ratchet offset 0.";
     refused(17, Some(1), words, |files| {
         files.seal.drain(ENTRY..2 * ENTRY);
     });
@@ -272,9 +283,22 @@ fn rule_21() {
 
 #[test]
 fn rule_22() {
-    let words = "there are fewer than P times N items (P burned chunks, N keys from each). The \
-                 seal file has 5 items. P is 2 and N is 3: 6 items.";
-    refused(22, None, words, |files| files.seal.truncate(5 * ENTRY));
+    let rule = "after the last item chunk P at offset 0 is not what is due (P burned chunks).";
+    let words = format!(
+        "{rule} The seal file has 5 items. Due after them is chunk 1, ratchet offset 2, and P is \
+         2: it would have to be chunk 2, ratchet offset 0. Chunk 1 is half used."
+    );
+    refused(22, None, &words, |files| files.seal.truncate(5 * ENTRY));
+    let words = format!(
+        "{rule} The seal file has 3 items. Due after them is chunk 1, ratchet offset 0, and P is \
+         2: it would have to be chunk 2, ratchet offset 0."
+    );
+    refused(22, None, &words, |files| files.seal.truncate(3 * ENTRY));
+    let words = format!(
+        "{rule} The seal file has 0 items. Due after them is chunk 0, ratchet offset 0, and P is \
+         2: it would have to be chunk 2, ratchet offset 0."
+    );
+    refused(22, None, &words, |files| files.seal.clear());
 }
 
 #[test]

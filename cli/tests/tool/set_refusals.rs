@@ -183,32 +183,36 @@ fn rule_14() {
 
 #[test]
 fn rule_15() {
-    let rule = "the item is no entry and no filler, or the seal file ends before the item does.";
+    let rule = "the item is no entry, no filler and no restart, or the seal file ends before the \
+                item does.";
     let words = format!(
         "{rule} Damaged from item 5 at byte 161: it takes 25 bytes and the file ends after 24 of \
-         them."
+         them. Due is chunk 1, ratchet offset 2, or a restart with the number 2, chunk 2, ratchet \
+         offset 0."
     );
     refused(SMALLEST, 15, Some(5), &words, |files| {
         files.seal.pop();
     });
     let words = format!(
         "{rule} Damaged from item 3 at byte 102: it takes 34 bytes and the file ends after 33 of \
-         them."
+         them. Due is chunk 1, ratchet offset 0."
     );
     refused(FULL, 15, Some(3), &words, |files| {
         files.seal.truncate(4 * 34 - 1)
     });
     let words = format!(
-        "{rule} Damaged from item 1 at byte 34: its kind is 7, neither 2 (entry) nor 3 (filler)."
+        "{rule} Damaged from item 1 at byte 34: its kind is 7, not 2 (entry), 3 (filler) or 5 \
+         (restart). Due is chunk 0, ratchet offset 1, or a restart with the number 1, chunk 1, \
+         ratchet offset 0."
     );
     refused(FULL, 15, Some(1), &words, |files| files.seal[34] = 7);
 }
 
 #[test]
 fn rule_16() {
-    let words = "the item's number is not below P times N (P burned chunks, N keys from each). At \
-                 byte 186 of the seal file stands an entry of phase 1, offset 0, 1 byte, chunk 0, \
-                 ratchet offset 0. P is 2 and N is 3: 6 items.";
+    let words = "the chunk in which the item is due is not below P (P burned chunks). At byte 186 \
+                 of the seal file stands an entry of phase 1, offset 0, 1 byte, chunk 0, ratchet \
+                 offset 0. Due is chunk 2, ratchet offset 0. P is 2.";
     refused(SMALLEST, 16, Some(6), words, |files| {
         files.seal.extend_from_within(..34);
     });
@@ -216,9 +220,11 @@ fn rule_16() {
 
 #[test]
 fn rule_17() {
-    let words = "the item has another chunk number or ratchet offset than its number gives. \
-                 At byte 34 of the seal file stands an entry of phase 2, offset 1, 1 byte, \
-                 chunk 0, ratchet offset 2. Item 1 ought to have chunk 0, ratchet offset 1.";
+    let words = "the item has another chunk number or ratchet offset than is due, or is a restart \
+                 where no chunk was cut or with another number than the cut chunk had items. At \
+                 byte 34 of the seal file stands an entry of phase 2, offset 1, 1 byte, chunk 0, \
+                 ratchet offset 2. Due is chunk 0, ratchet offset 1, or a restart with the number \
+                 1, chunk 1, ratchet offset 0.";
     refused(SMALLEST, 17, Some(1), words, |files| {
         files.seal.drain(34..68);
     });
@@ -372,8 +378,9 @@ fn rule_21() {
 
 #[test]
 fn rule_22() {
-    let words = "there are fewer than P times N items (P burned chunks, N keys from each). The \
-                 seal file has 4 items. P is 2 and N is 3: 6 items.";
+    let words = "after the last item chunk P at offset 0 is not what is due (P burned chunks). \
+                 The seal file has 4 items. Due after them is chunk 1, ratchet offset 1, and P is \
+                 2: it would have to be chunk 2, ratchet offset 0. Chunk 1 is half used.";
     for set in SETS {
         let entries = 4 * set.entry_length();
         refused(set, 22, None, words, |files| files.seal.truncate(entries));

@@ -15,10 +15,11 @@ fn folder_of(name: &str, set: Set) -> Folder {
 
 const LEGEND: &str = "\
 Coverage of the logs. The covered bytes of a phase run from 0 on, and an item
-that begins where they end covers its own. Each cell of a bar stands for equally
-many bytes, give or take one: a-z the item at its first byte (after z comes a),
-< if it begins below the covered end, > if beyond, . no item, - an item on a
-part of the cell, * bytes that items share, ! the refused item.
+that begins where they end covers its own; fillers and restarts have none. Each
+cell of a bar stands for equally many bytes, give or take one: a-z the item at
+its first byte (after z comes a), < if it begins below the covered end, > if
+beyond, . no item, - an item on a part of the cell, * bytes that items share,
+! the refused item.
 ";
 
 #[test]
@@ -28,7 +29,7 @@ fn accepted() {
         let text = folder.audit(&["--no-picture"]).ended(0);
         assert_eq!(text, "ACCEPTED: 6 items.\n");
         let json = folder.audit(&["--json"]).ended(0);
-        let start = r#"{"verdict":"accepted","items":6,"rule":null,"item":null,"#;
+        let start = r#"{"verdict":"accepted","items":6,"restarts":[],"rule":null,"item":null,"#;
         assert!(json.starts_with(start), "{json}");
     }
 }

@@ -73,7 +73,7 @@ fn item(evidence: &Evidence, number: usize) -> Option<Item> {
 }
 
 fn alter_log(evening: &mut Evidence, _: &AtHand) {
-    let area = item(evening, TARGET).and_then(|item| item.area);
+    let area = item(evening, TARGET).and_then(|item| item.area());
     if let Some(area) = area {
         let log = SET.log_start(area.phase);
         evening.logs[log + area.offset as usize + TENS_IN_LINE] = b'1';

@@ -4,7 +4,7 @@ use std::io::Write;
 
 use super::super::Status;
 use super::super::failure::Failure;
-use super::super::item::{entry_length, filler_length};
+use super::super::item::{entry_length, filler_length, restart_length};
 use super::super::json::Value;
 use super::super::store::{Header, chunks, is_burned};
 use super::super::text::{counted, grouped, hexadecimal, wrapped};
@@ -65,10 +65,11 @@ fn rows(header: &Header, store: &[u8]) -> [(&'static str, String); 7] {
         grouped(header.keys_of(chunks) as u64)
     );
     let tag_length = format!(
-        "{} bytes; an entry takes {} of the seal file, a filler {}",
+        "{} bytes; an entry takes {} bytes, a filler {}, a restart {}",
         set.tag_length,
         entry_length(set),
-        filler_length(set)
+        filler_length(set),
+        restart_length(set)
     );
     let log_capacity = format!(
         "{} bytes; the log memory takes {}",

@@ -4,7 +4,7 @@ use std::io::Write;
 
 use super::super::Status;
 use super::super::failure::Failure;
-use super::super::item::{Damage, Item, items};
+use super::super::item::{Content, Damage, Item, items};
 use super::super::json::{Value, comma};
 use super::super::set::Set;
 use super::super::text::{counted, hexadecimal, wrapped};
@@ -58,15 +58,17 @@ pub fn json(seal_file: &[u8], set: Option<Set>, out: &mut dyn Write) -> Result<S
     Ok(status)
 }
 
-/// A filler's area is null.
+/// The area is null but of an entry, the number but of a restart.
 fn item_json(item: &Item) -> Value {
-    let area = item.area.map_or(Value::Null, |area| area.json());
+    let area = item.area().map_or(Value::Null, |area| area.json());
     Value::Object(vec![
         ("item", Value::Number(item.number as u64)),
+        ("kind", Value::text(item.content.kind())),
         ("place", Value::Number(item.place.start as u64)),
         ("chunk", Value::Number(item.chunk.into())),
         ("ratchet", Value::Number(item.ratchet.into())),
         ("area", area),
+        ("number", Value::number(item.restart())),
         ("tag", Value::Text(hexadecimal(&item.tag))),
     ])
 }
@@ -82,19 +84,20 @@ fn damage_words(damage: Damage, set: Option<Set>) -> String {
     }
 }
 
+/// A restart has its number where the others have offset and length.
 fn row(item: &Item) -> String {
-    let (kind, phase, offset, length) = match item.area {
-        Some(area) => (
-            "entry",
+    let [phase, middle] = match item.content {
+        Content::Entry(area) => [
             area.phase.to_string(),
-            area.offset.to_string(),
-            area.length.to_string(),
-        ),
-        None => ("filler", "-".into(), "-".into(), "-".into()),
+            format!("{:>10}  {:>10}", area.offset, area.length),
+        ],
+        Content::Filler => ["-".into(), format!("{:>10}  {:>10}", "-", "-")],
+        Content::Restart(number) => ["-".into(), format!("{:>22}", format!("number {number}"))],
     };
     format!(
-        "{:>7}  {kind:<6}  {phase:>5}  {offset:>10}  {length:>10}  {:>10}  {:>10}  {}",
+        "{:>7}  {:<7} {phase:>5}  {middle}  {:>10}  {:>10}  {}",
         item.number,
+        item.content.kind(),
         item.chunk,
         item.ratchet,
         hexadecimal(&item.tag[..TAG_SHOWN])
@@ -107,19 +110,27 @@ mod tests {
     use super::*;
 
     #[test]
-    fn widest_row_fits_80_columns() {
-        let item = Item {
-            number: 1_636_801,
-            place: 0..50,
-            area: Some(Area {
-                phase: 255,
-                offset: u32::MAX,
-                length: u32::MAX,
-            }),
-            chunk: u32::MAX,
-            ratchet: u32::MAX,
-            tag: vec![0xff; 32],
+    fn widest_rows_fit_80_columns() {
+        let area = Area {
+            phase: 255,
+            offset: u32::MAX,
+            length: u32::MAX,
         };
-        assert_eq!(row(&item).len(), 80);
+        let contents = [
+            Content::Entry(area),
+            Content::Filler,
+            Content::Restart(u32::MAX),
+        ];
+        for content in contents {
+            let item = Item {
+                number: 1_636_801,
+                place: 0..50,
+                content,
+                chunk: u32::MAX,
+                ratchet: u32::MAX,
+                tag: vec![0xff; 32],
+            };
+            assert_eq!(row(&item).len(), 80);
+        }
     }
 }
