@@ -22,9 +22,25 @@ fn written_material_is_accepted() {
     let text = run(&["demo", "--out", &place]).ended(0);
     assert!(text.starts_with(EXPECTED), "{text}");
     let verdict = run(&["audit", &place, "--no-picture"]).ended(0);
-    assert_eq!(verdict, "ACCEPTED: 96 items.\n");
+    let expected = "ACCEPTED: 98 items.\n  1 restart, as after a loss of power: item 66 (chunk 4 had \
+                    2 items).\n";
+    assert_eq!(verdict, expected);
     let table = run(&["dump", &folder.path("new/place/seal.bin")]).ended(0);
-    assert!(table.ends_with("96 items in 4,584 bytes.\n"), "{table}");
+    assert!(table.ends_with("98 items in 4,670 bytes.\n"), "{table}");
+}
+
+/// What is dropped behind the first item of the last burned chunk passes, what
+/// is dropped before it does not.
+#[test]
+fn made_up_cuts() {
+    let text = run(&["demo"]).ended(0);
+    let (_, acts) = text.split_once("   k. has the controller, ").expect("k");
+    let (passes, refused) = acts.split_once("   l. has the controller, ").expect("l");
+    assert!(passes.contains("      ACCEPTED: 99 items.\n"), "{passes}");
+    assert!(
+        refused.contains("      REFUSED by rule 17 at item 79: "),
+        "{refused}"
+    );
 }
 
 #[test]

@@ -1,11 +1,20 @@
 //! What an intruder does to the material of the evening.
 
+use pahyndoi::Refusal;
+
 use super::super::evidence::Evidence;
 use super::super::item::{Item, items};
-use super::junction::SET;
+use super::junction::{Junction, SET};
 
 /// The item of 07:00 on the side road.
 pub const TARGET: usize = 22;
+
+/// The first item of the last burned chunk, of 23:00 on the main road. What
+/// stands up to it can't be dropped.
+pub const LAST_SAFE: usize = 82;
+
+/// An item in the chunk before, of 22:00 on the main road.
+pub const TOO_FAR: usize = 79;
 
 /// Where the tens of the count stand in its line, "07:00 side road  82".
 const TENS_IN_LINE: usize = 17;
@@ -24,7 +33,7 @@ pub struct Act {
     pub alter: fn(&mut Evidence, &AtHand),
 }
 
-pub const ACTS: [Act; 10] = [
+pub const ACTS: [Act; 12] = [
     Act {
         words: "alters a log byte: the side road's 82 of 07:00 becomes 12",
         alter: alter_log,
@@ -64,6 +73,14 @@ pub const ACTS: [Act; 10] = [
     Act {
         words: "puts back everything of noon, the copied store included",
         alter: put_back_all,
+    },
+    Act {
+        words: "has the controller, drops all behind item 82 and makes up a power cut",
+        alter: drop_behind_the_last_safe,
+    },
+    Act {
+        words: "has the controller, drops all from item 79 on and makes up a power cut",
+        alter: drop_too_far,
     },
 ];
 
@@ -130,6 +147,30 @@ fn put_back_logs(evening: &mut Evidence, AtHand { noon, .. }: &AtHand) {
 
 fn put_back_store(evening: &mut Evidence, AtHand { noon, .. }: &AtHand) {
     evening.device = noon.device.clone();
+}
+
+fn drop_behind_the_last_safe(evening: &mut Evidence, _: &AtHand) {
+    drop_from(LAST_SAFE + 1, evening);
+}
+
+fn drop_too_far(evening: &mut Evidence, _: &AtHand) {
+    drop_from(TOO_FAR, evening);
+}
+
+/// Leaves so many items, and goes on as if the power had gone behind them.
+fn drop_from(count: usize, evening: &mut Evidence) {
+    let left: Vec<Item> = items(SET, &evening.seal).flatten().take(count).collect();
+    if let Ok(altered) = made_up_cut(Junction::taken(evening, &left)) {
+        *evening = altered;
+    }
+}
+
+/// With a chunk that the junction has not burned yet.
+fn made_up_cut(mut junction: Junction) -> Result<Evidence, Refusal> {
+    junction.open()?;
+    junction.restart(junction.due().offset as u32)?;
+    junction.close()?;
+    Ok(junction.evidence())
 }
 
 fn put_back_all(evening: &mut Evidence, at_hand: &AtHand) {

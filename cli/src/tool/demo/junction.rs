@@ -2,10 +2,11 @@
 
 use std::ops::Range;
 
-use pahyndoi::{Refusal, State, append, close, open, sha256};
+use pahyndoi::{Refusal, State, append, close, open, restart, sha256};
 
+use super::super::due::Due;
 use super::super::evidence::Evidence;
-use super::super::item::entry_length;
+use super::super::item::{Item, entry_length, items};
 use super::super::set::Set;
 use super::super::store::{Header, burned_at_front};
 
@@ -42,7 +43,15 @@ pub struct Junction {
     store: Vec<u8>,
     logs: Vec<u8>,
     seal: Vec<u8>,
+    kept: Kept,
     state: State,
+}
+
+/// What a loss of power leaves of the state: the lengths reached.
+#[derive(Default)]
+struct Kept {
+    lengths: [u32; PHASES.len()],
+    seal_length: u64,
 }
 
 impl Junction {
@@ -54,27 +63,90 @@ impl Junction {
             store,
             logs: vec![0; header.log_memory_length()],
             seal: vec![0; seal_memory()],
+            kept: Kept::default(),
             state: State::default(),
         })
+    }
+
+    /// As somebody has it who took it and drops all items but these, the first
+    /// ones: the logs are cut to match, and the state is gone.
+    pub fn taken(evidence: &Evidence, left: &[Item]) -> Junction {
+        let mut kept = Kept::default();
+        for item in left {
+            kept.seal_length = item.place.end as u64;
+            if let Some(area) = item.area() {
+                kept.lengths[usize::from(area.phase) - 1] += area.length;
+            }
+        }
+        let mut seal = evidence.seal.clone();
+        seal.resize(seal_memory(), 0);
+        Junction {
+            auditor_store: evidence.auditor.clone(),
+            store: evidence.device.clone(),
+            logs: evidence.logs.clone(),
+            seal,
+            kept,
+            state: State::default(),
+        }
     }
 
     /// Opens, seals the hours' counts and closes; answers how many there are and
     /// the number of fillers.
     pub fn half_day(&mut self, hours: Range<usize>) -> Result<(usize, u64), Refusal> {
         self.open()?;
+        Ok((self.counts(hours)?, self.close()?))
+    }
+
+    /// Begins sealing, with the lengths reached.
+    pub fn open(&mut self) -> Result<(), Refusal> {
+        let Kept {
+            lengths,
+            seal_length,
+        } = &self.kept;
+        self.state = open(&self.store, &self.logs, lengths, &self.seal, *seal_length)?;
+        Ok(())
+    }
+
+    /// Keeps the lengths that the state has.
+    fn keep(&mut self) {
+        self.kept = Kept {
+            lengths: std::array::from_fn(|index| self.state.lengths[index]),
+            seal_length: self.state.seal_length,
+        };
+    }
+
+    /// Takes the state, with the key in it.
+    pub fn lose_power(&mut self) {
+        self.state = State::default();
+    }
+
+    /// What is due behind the seal file's last item.
+    pub fn due(&self) -> Due {
+        let seal_file = &self.seal[..self.kept.seal_length as usize];
+        let last: Vec<Item> = items(SET, seal_file).flatten().last().into_iter().collect();
+        Due::behind(&last, HEADER.ratchet)
+    }
+
+    /// Goes on behind a chunk that so many items were sealed with.
+    pub fn restart(&mut self, number: u32) -> Result<u64, Refusal> {
+        let place = restart(
+            &mut self.state,
+            &mut self.store,
+            &self.logs,
+            &mut self.seal,
+            number,
+        )?;
+        self.keep();
+        Ok(place)
+    }
+
+    /// Seals the counts of these hours and answers how many there are.
+    pub fn counts(&mut self, hours: Range<usize>) -> Result<usize, Refusal> {
         let mut entries = 0;
         for hour in hours {
             entries += self.count(hour)?;
         }
-        Ok((entries, self.close()?))
-    }
-
-    /// Begins sealing, with the lengths reached.
-    fn open(&mut self) -> Result<(), Refusal> {
-        let lengths = &self.state.lengths[..PHASES.len()];
-        let seal_length = self.state.seal_length;
-        self.state = open(&self.store, &self.logs, lengths, &self.seal, seal_length)?;
-        Ok(())
+        Ok(entries)
     }
 
     /// Seals the counts of one hour and answers how many there are.
@@ -90,13 +162,16 @@ impl Junction {
                 1 + index as u8,
                 line.as_bytes(),
             )?;
+            self.keep();
         }
         Ok(PHASES.len())
     }
 
     /// Uses up the chunk and answers the number of fillers.
-    fn close(&mut self) -> Result<u64, Refusal> {
-        close(&mut self.state, &self.store, &self.logs, &mut self.seal)
+    pub fn close(&mut self) -> Result<u64, Refusal> {
+        let fillers = close(&mut self.state, &self.store, &self.logs, &mut self.seal)?;
+        self.keep();
+        Ok(fillers)
     }
 
     pub fn burned(&self) -> usize {
@@ -105,13 +180,17 @@ impl Junction {
 
     /// What an auditor is presented with.
     pub fn evidence(&self) -> Evidence {
-        let lengths = self.state.lengths[..PHASES.len()].iter();
+        let Kept {
+            lengths,
+            seal_length,
+        } = &self.kept;
+        let lengths = lengths.iter();
         Evidence {
             device: self.store.clone(),
             auditor: self.auditor_store.clone(),
             logs: self.logs.clone(),
             lengths: lengths.flat_map(|length| length.to_le_bytes()).collect(),
-            seal: self.seal[..self.state.seal_length as usize].to_vec(),
+            seal: self.seal[..*seal_length as usize].to_vec(),
         }
     }
 }

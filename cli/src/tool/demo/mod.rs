@@ -11,7 +11,7 @@ use std::path::Path;
 
 use pahyndoi::Refusal;
 
-use self::intruder::{ACTS, AtHand, TARGET, drop_item};
+use self::intruder::{ACTS, AtHand, LAST_SAFE, TARGET, TOO_FAR, drop_item};
 use self::junction::{HEADER, Junction, SEED, SET, STANDBY};
 use super::Status;
 use super::arguments::Syntax;
@@ -30,10 +30,10 @@ const SYNTAX: Syntax = Syntax {
     operands: 0,
 };
 
-const LIMIT: &str = "\
-The last one passes: a copy of the store from noon shows chunks that the \
-controller has burned since, and the seals rest on nobody having those. The \
-count alone tells it from the evening's.";
+const COPIED_STORE: &str = "\
+j. passes: a copy of the store from noon shows chunks that the controller has \
+burned since, and the seals rest on nobody having those. The count alone tells \
+it from the evening's.";
 
 pub fn run(arguments: &[OsString], out: &mut dyn Write) -> Result<Status, Failure> {
     let arguments = SYNTAX.read(arguments)?;
@@ -43,7 +43,7 @@ pub fn run(arguments: &[OsString], out: &mut dyn Write) -> Result<Status, Failur
     writeln!(out, "\n2. A day is sealed\n")?;
     half_day(&mut junction, 0..12, out)?;
     let noon = junction.evidence();
-    half_day(&mut junction, 12..24, out)?;
+    half_day_with_a_cut(&mut junction, out)?;
     let evening = junction.evidence();
     let standby = standby_day(out)?;
     log_lines(&evening, out)?;
@@ -100,13 +100,42 @@ fn half_day(
     paragraph(out, &text)
 }
 
+/// The power goes at 18:00, with a chunk half used.
+fn half_day_with_a_cut(junction: &mut Junction, out: &mut dyn Write) -> Result<(), Failure> {
+    junction.open().map_err(refused)?;
+    let entries = junction.counts(12..18).map_err(refused)?;
+    junction.lose_power();
+    let due = junction.due();
+    let text = format!(
+        "12:00 to 18:00: open, {entries} appends. Then the power goes, and with it the state and \
+         the key in it: chunk {} has sealed {}, and its other {} keys are lost.",
+        due.chunk,
+        counted(due.offset as usize, "item"),
+        u64::from(HEADER.ratchet) - due.offset,
+    );
+    paragraph(out, &text)?;
+    junction.open().map_err(refused)?;
+    let place = junction.restart(due.offset as u32).map_err(refused)?;
+    let entries = junction.counts(18..24).map_err(refused)?;
+    let fillers = junction.close().map_err(refused)?;
+    let text = format!(
+        "18:00 to 24:00: open with the lengths kept, restart with the number {}, which the last \
+         item tells, in chunk {}; {entries} appends, close with {}; {} burned.",
+        due.offset,
+        place / u64::from(HEADER.ratchet),
+        counted(fillers as usize, "filler"),
+        counted(junction.burned(), "chunk"),
+    );
+    paragraph(out, &text)
+}
+
 /// What the standby has in the evening: the same counts as the junction.
 fn standby_day(out: &mut dyn Write) -> Result<Evidence, Failure> {
     let mut standby = Junction::new(STANDBY).map_err(refused)?;
     for hours in [0..12, 12..24] {
         standby.half_day(hours).map_err(refused)?;
     }
-    paragraph(out, "The standby seals the same counts.")?;
+    paragraph(out, "The standby seals the same counts, without a cut.")?;
     Ok(standby.evidence())
 }
 
@@ -142,8 +171,24 @@ fn intruder(evening: &Evidence, at_hand: &AtHand, out: &mut dyn Write) -> Result
         writeln!(out, "   {letter}. {}", act.words)?;
         writeln!(out, "{}", verdict.words("      "))?;
     }
-    paragraph(out, LIMIT)?;
+    paragraph(out, COPIED_STORE)?;
+    paragraph(out, &made_up_cuts(evening))?;
     gap(evening, at_hand, out)
+}
+
+/// Why the one passes and the other does not.
+fn made_up_cuts(evening: &Evidence) -> String {
+    let reading = Reading::of(evening.material());
+    let last_burned = reading.items[LAST_SAFE].chunk;
+    format!(
+        "k. passes too: whoever has the controller has its next chunk, {}, and can seal a restart \
+         with it, as the controller itself would after a cut. Nothing tells the two apart. But \
+         item {LAST_SAFE} is the first one of chunk {last_burned}, the last that is burned, and up \
+         to that one nothing can be dropped: behind item {}, as l. tries it, a restart takes chunk \
+         {last_burned}, and nobody has that any more.",
+        last_burned + 1,
+        TOO_FAR - 1,
+    )
 }
 
 /// The picture of a log whose item was dropped.
