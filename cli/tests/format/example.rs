@@ -3,7 +3,9 @@
 use std::collections::BTreeMap;
 use std::ops::Range;
 
-use pahyndoi::{LONGEST_TAG, State, append_raw, audit_raw, close_raw, hmac_sha256, open_raw};
+use pahyndoi::{
+    LONGEST_TAG, State, append_raw, audit_raw, close_raw, hmac_sha256, open_raw, restart_raw,
+};
 
 use crate::page;
 
@@ -16,12 +18,22 @@ const ID_PLACE: Range<usize> = 1..9;
 const ENTRY_HEAD_LENGTH: usize = 18;
 const ENTRY_LENGTH: usize = 50;
 const FILLER_HEAD_LENGTH: usize = 9;
+const RESTART_HEAD_LENGTH: usize = 13;
+const RESTART_LENGTH: usize = 45;
+const NUMBER_IN_RESTART: usize = 9;
 
 /// Kind, offset 1 and N, behind the id.
 const RATCHET_HEAD: [u8; 9] = [4, 1, 0, 0, 0, 2, 0, 0, 0];
 
 const LOG_CAPACITY: usize = 8192;
 const SMALL_LOG_CAPACITY: usize = 512;
+
+/// One phase, two chunks and two keys from each.
+fn store_with_two_chunks() -> Vec<u8> {
+    let counts = [1, 2, 0, 0, 0, 2, 0, 0, 0];
+    let chunks: Vec<u8> = (0x20..0x60).collect();
+    [&[1], ID, &counts, &chunks].concat()
+}
 
 /// One phase, one chunk and two keys from it.
 fn store_of(kind: u8, set: &[u8]) -> Vec<u8> {
@@ -85,6 +97,16 @@ impl Run {
         run
     }
 
+    /// With a cut behind the first entry.
+    fn cut() -> Run {
+        let mut run = Run::begun(store_with_two_chunks(), LOG_CAPACITY);
+        run.open();
+        run.append("append");
+        run.cut_and_opened();
+        run.restarted();
+        run
+    }
+
     fn begun(unused: Vec<u8>, log_capacity: usize) -> Run {
         Run {
             store: unused.clone(),
@@ -126,7 +148,7 @@ impl Run {
         self.block("state after append", state_bytes(&self.state));
         self.block("key of item 1", self.state.key.to_vec());
         self.audit("audit before the close");
-        self.close();
+        self.close("close");
         self.block("state after close", state_bytes(&self.state));
         self.block("seal file", self.seal_file());
         assert!(self.seal[self.seal_file().len()..].iter().all(|b| *b == 0));
@@ -157,7 +179,7 @@ impl Run {
         self.answer(call, answer);
     }
 
-    fn close(&mut self) {
+    fn close(&mut self, call: &'static str) {
         let Run {
             state,
             store,
@@ -166,7 +188,58 @@ impl Run {
             ..
         } = self;
         let answer = close_raw(state, store, logs, seal);
-        self.answer("close", answer);
+        self.answer(call, answer);
+    }
+
+    /// The state is lost, but for the lengths, which the device has kept.
+    fn cut_and_opened(&mut self) {
+        let (lengths, seal_length) = (self.state.lengths, self.state.seal_length);
+        self.state = State::default();
+        let Run {
+            state,
+            store,
+            logs,
+            seal,
+            ..
+        } = self;
+        let answer = open_raw(state, store, logs, &lengths[..1], seal, seal_length);
+        self.answer("open after the cut", answer);
+        self.block(
+            "state after the open behind the cut",
+            state_bytes(&self.state),
+        );
+    }
+
+    /// What the device does then, refused and not.
+    fn restarted(&mut self) {
+        self.close("close in the restart's place");
+        self.audit("audit before the restart");
+        self.restart("restart with the number 2", 2);
+        self.restart("restart with the number 1", 1);
+        self.block("state after the restart", state_bytes(&self.state));
+        self.close("close");
+        self.restart("restart after the close", 1);
+        let mut seal_file = self.seal_file();
+        self.block("seal file with a cut", seal_file.clone());
+        let restart = &seal_file[ENTRY_LENGTH..][..RESTART_LENGTH];
+        let (head, tag) = restart.split_at(RESTART_HEAD_LENGTH);
+        self.block("message of the restart item", [ID, head].concat());
+        self.block("tag of the restart item", tag.to_vec());
+        self.audit("audit");
+        seal_file[ENTRY_LENGTH + NUMBER_IN_RESTART] = 2;
+        self.audit_of("audit with the number 2 in item 1", &seal_file);
+    }
+
+    fn restart(&mut self, call: &'static str, number: u32) {
+        let Run {
+            state,
+            store,
+            logs,
+            seal,
+            ..
+        } = self;
+        let answer = restart_raw(state, store, logs, seal, number);
+        self.answer(call, answer);
     }
 
     fn seal_file(&self) -> Vec<u8> {
@@ -236,6 +309,7 @@ fn small_blocks() -> BTreeMap<String, Vec<u8>> {
 fn every_block_is_what_the_calls_give() {
     let mut given = Run::new().blocks;
     given.append(&mut small_blocks());
+    given.append(&mut Run::cut().blocks);
     let page = page::blocks(page::section(EXAMPLE));
     let labels: Vec<&String> = page.keys().collect();
     assert_eq!(labels, given.keys().collect::<Vec<&String>>());
@@ -260,21 +334,32 @@ fn tags_and_keys_follow_from_messages() {
     let behind_the_id = &page["message of item 0"][ID.len()..];
     let standby = tag(first, &[STANDBY_ID, behind_the_id].concat());
     assert_eq!(page["tag of item 0 of the standby"], standby);
+    let second_chunk: Vec<u8> = (0x40..0x60).collect();
+    let restart = tag(&second_chunk, &page["message of the restart item"]);
+    assert_eq!(page["tag of the restart item"], restart);
+}
+
+/// The rows of the table with this heading.
+fn answers_on_the_page(heading: &str) -> Vec<(&'static str, String)> {
+    let rows = page::table(page::section(EXAMPLE), heading);
+    rows.iter()
+        .map(|row| (row[0], row[1].to_string()))
+        .collect()
+}
+
+fn answers_of(run: &Run) -> Vec<(&'static str, String)> {
+    run.answers
+        .iter()
+        .map(|(call, answer)| (*call, format!("`{answer:#018x}`")))
+        .collect()
 }
 
 #[test]
 fn every_answer_is_what_the_calls_give() {
-    let rows = page::table(page::section(EXAMPLE), "| call | answer | that is |");
-    let page: Vec<(&str, String)> = rows
-        .iter()
-        .map(|row| (row[0], row[1].to_string()))
-        .collect();
-    let given: Vec<(&str, String)> = Run::new()
-        .answers
-        .iter()
-        .map(|(call, answer)| (*call, format!("`{answer:#018x}`")))
-        .collect();
-    assert_eq!(page, given);
+    let page = answers_on_the_page("| call | answer | that is |");
+    assert_eq!(page, answers_of(&Run::new()));
+    let page = answers_on_the_page("| call, with a cut | answer | that is |");
+    assert_eq!(page, answers_of(&Run::cut()));
 }
 
 /// The small card's states but for the seal length, and its answers, are those

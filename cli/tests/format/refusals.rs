@@ -9,14 +9,18 @@ const REFUSALS: u32 = 9;
 const HEADER: &str = include_str!("../../../include/pahyndoi.h");
 
 /// The calls with a list of rules in the header, and their names on the page.
-const LISTED: [(&str, &str); 6] = [
+const LISTED: [(&str, &str); 7] = [
     ("hmac_sha256", "HMAC"),
     ("open", "open"),
     ("append", "append"),
     ("close", "close"),
+    (RESTART, "restart"),
     ("audit", "audit"),
     ("least_ratchet", "least_ratchet"),
 ];
+
+/// The one call that checks its rules in another order than the page's list.
+const RESTART: &str = "restart";
 
 /// The rows of the page's list: number, words, condition, calls, item.
 fn rows() -> Vec<Vec<&'static str>> {
@@ -87,7 +91,7 @@ fn page_header_and_tool_say_the_same() {
         .iter()
         .map(|row| (number_of(row), row[1].to_string()))
         .collect();
-    let tool: Vec<(u32, String)> = (1..=26)
+    let tool: Vec<(u32, String)> = (1..=27)
         .map(|number| (number, Refusal(number).meaning().to_string()))
         .collect();
     assert_eq!(page, tool);
@@ -103,8 +107,28 @@ fn calls_check_what_the_header_lists() {
     for ((call, listed), (_, name)) in lists.iter().zip(LISTED) {
         let checked = rows.iter().filter(|row| row[3].contains(name));
         let checked: Vec<u32> = checked.map(|row| number_of(row)).collect();
-        assert_eq!(checked, *listed, "{call}");
+        let mut listed = listed.clone();
+        if call == RESTART {
+            listed.sort();
+        }
+        assert_eq!(checked, listed, "{call}");
     }
+}
+
+/// As the page says below its list.
+#[test]
+fn restart_checks_27_before_10() {
+    let (_, text) = page::section(REFUSALS)
+        .split_once(" and restart ")
+        .expect("its rules");
+    let (sentence, _) = text.split_once(", in this order").expect("their end");
+    let lists = listed_in_the_header();
+    let listed = lists.into_iter().find(|(call, _)| call == RESTART);
+    assert_eq!(
+        listed.map(|(_, rules)| rules),
+        Some(vec![2, 3, 6, 27, 10, 11])
+    );
+    assert_eq!(numbers(sentence), [2, 3, 6, 27, 10, 11]);
 }
 
 #[test]
