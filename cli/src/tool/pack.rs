@@ -40,7 +40,7 @@ pub fn run(arguments: &[OsString], out: &mut dyn Write) -> Result<Status, Failur
     files::write(store_path, &store, arguments.has("--force"))?;
     writeln!(
         out,
-        "{}: {}; {}, {} for {}{}.",
+        "{}: {}; {}, {} for up to {}{}.",
         shown(store_path),
         counted(store.len(), "byte"),
         counted(usize::from(header.phases), "phase"),

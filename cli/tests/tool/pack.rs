@@ -48,7 +48,7 @@ fn store_is_header_and_keys() {
     let folder = folder("store", &keys);
     let text = pack(&folder, NONE, &[]).ended(0);
     let path = folder.path("auditor.store");
-    let expected = format!("{path}: 146 bytes; 3 phases, 4 chunks for 64 items.\n");
+    let expected = format!("{path}: 146 bytes; 3 phases, 4 chunks for up to 64 items.\n");
     assert_eq!(text, expected);
     let header = [
         1, 0, 0x11, 0x22, 0x33, 0x44, 0x55, 0x66, 0x77, 3, 4, 0, 0, 0, 16, 0, 0, 0,
@@ -97,7 +97,8 @@ fn store_carries_its_set() {
         ];
         let text = pack(&folder, NONE, &set).ended(0);
         let path = folder.path("auditor.store");
-        let expected = format!("{path}: 155 bytes; 3 phases, 4 chunks for 64 items; {words}.\n");
+        let expected =
+            format!("{path}: 155 bytes; 3 phases, 4 chunks for up to 64 items; {words}.\n");
         assert_eq!(text, expected);
         let store = folder.read("auditor.store");
         assert_eq!(kind_and_set(&store), (6, &bytes[..]));
