@@ -391,19 +391,19 @@ uint64_t pahyndoi_close(pahyndoi_state *state,
  * state, store and seal are written; all bytes but the named ones stay as they
  * are. The logs are only read.
  *
- * The cuts meant are those between two calls. To firmware, a call and the
- * keeping of what it left are one step: let the supply last for both, or write
- * in such a way that after a cut all of it stands or nothing. Of a cut in the
- * middle of a call, with an item half written, or a chunk burned and no item,
- * nothing is said.
+ * The cuts meant are those between two calls; a reset that loses the state is
+ * one as well. To firmware, a call and the keeping of what it left are one
+ * step: let the supply last for both, or write in such a way that after a cut
+ * all of it stands or nothing. Of a cut in the middle of a call, with an item
+ * half written, or a chunk burned and no item, nothing is said.
  *
  * What firmware does:
  *
  *  1. After each call that is not refused it keeps, where a cut takes nothing,
  *     store, logs and seal as the call left them, and the log lengths and the
- *     seal length of the state, which is lost at a cut. It never keeps the
- *     state's key: old keys must be gone, and memory that lasts may still have
- *     them.
+ *     seal length of the state, which is lost at a cut. No copy of a burned
+ *     chunk may stay, and the state's key is never kept: keys must be gone once
+ *     they are used, and memory that lasts may still have them.
  *  2. After a cut it opens with the lengths kept.
  *  3. It walks through the seal file, from byte 0 on, by kinds and sizes, to
  *     the last item, and takes that item's ratchet offset plus 1. Where this is
