@@ -100,8 +100,8 @@ Exit status: 0 found, 1 refused, 2 bad usage or a file that can't be read.
 pub const DUMP: &str = "\
 Lists the items of a seal file: number, kind, phase, offset and data length in
 the phase's log, chunk number, ratchet offset, and the first bytes of the tag.
-A restart, which follows a loss of power, has a number in their place: of how
-many items it says that the chunk before has. No tag is checked; that takes an
+In place of offset and length a restart, which follows a loss of power, has a
+number: how many items the chunk before it has. No tag is checked; that takes an
 audit.
 
 Of a key store, which the first byte of FILE tells (1 or 6), it says what the
