@@ -93,8 +93,7 @@ impl Seized<'_> {
 
     /// The data found in the logs; none where the area leaves them.
     fn data(&self, head: &Head) -> Option<&[u8]> {
-        let area = head.area();
-        match area {
+        match head.area() {
             None => Some(&[]),
             Some((phase, _)) if !(1..=self.header.phases).contains(&phase) => None,
             Some((phase, area)) => {
@@ -108,10 +107,10 @@ impl Seized<'_> {
     fn has_right_tag(&self, item: &Item) -> bool {
         let place = item.head.position();
         let is_burned = self.account.burned().any(|number| number == place.chunk);
-        let (true, Some(data)) = (
-            is_burned && place.offset < self.header.ratchet,
-            self.data(&item.head),
-        ) else {
+        if !is_burned || place.offset >= self.header.ratchet {
+            return false;
+        }
+        let Some(data) = self.data(&item.head) else {
             return false;
         };
         let unused = chunk(self.presented.auditor_store, place.chunk);
