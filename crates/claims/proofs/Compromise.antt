@@ -23,7 +23,7 @@ use Rattle.scheme.proofs.Tests.{either}
 use Rattle.scheme.proofs.Headers.{SameFields, same-fields, same-data-of}
 use Rattle.scheme.proofs.Items.{head-fits, same-data, same-item, same-key}
 use Rattle.scheme.proofs.Tags.{same-tag}
-use Rattle.scheme.proofs.Due.{after-chunk, due-on}
+use Rattle.scheme.proofs.Due.{after-chunk, due-on, stands-once}
 use Rattle.scheme.proofs.Acceptance.{accepts, acceptable-pieces}
 use Rattle.claims.specs.Account.{Fed, Account, carried}
 use Rattle.claims.specs.Claim.{Intact, Forged, Shown, logsLeft, lastBurned, upToFirst, secured}
@@ -110,6 +110,9 @@ module _ (f : Fed) (a : Account) (good : Good f a) (device logs lengths seal : L
   abbrev keys : ℕ
   keys = ratchet (f .store)
 
+  some : 1 ≤ keys
+  some = omega (arith, ok .auditorStore .ratchetLow)
+
   -- a chunk of the account's is not burned
   shown : ok .burned < front a → Shown f a device
   shown h =
@@ -193,6 +196,32 @@ module _ (f : Fed) (a : Account) (good : Good f a) (device logs lengths seal : L
           ∙ sym (same-data-of device (f .store) fields logs (presented device seal k))
           ∙ same-data device logs (presented device seal k) (f .store) (logsLeft f a) (itemOf a k) whole whole′ (fields .id) same
 
+    -- one presented with the message of another of the account's is that one; so where those before it are the account's, it is none of the others
+    module _ (k : ℕ) (below : k < n) (within′ : k < length (a .items)) (same : (i : ℕ) → i < k → presented device seal i ≡ itemOf a i) (j : ℕ) (inside : j < length (a .items))
+        (said : presentedMessage device logs seal k ≡ keptMessage f a j) where
+      one-item : presented device seal k ≡ itemOf a j
+      one-item =
+          let whole : headLength (presented device seal k) ≤ length (presented device seal k) = rw cut-so (head-fits device (getD (ok .items) k []) (ok .form k below)) in
+          let whole′ = head-fits (f .store) (itemOf a j) (good .items j inside .form) in
+          let key = same-key device logs (presented device seal k) (f .store) (logsLeft f a) (itemOf a j) whole whole′ (fields .id) said (f .store) in
+          same-item device logs (presented device seal k) (f .store) (logsLeft f a) (itemOf a j) whole whole′ (fields .id) said
+          (tagged k below ∙ ap₂ (tagOf (f .store)) key said ∙ sym (good .items j inside .tag))
+
+      front-same : take k (pieces device seal) ≡ take k (a .items)
+      front-same =
+          let size : length (take k (pieces device seal)) ≡ k = length-take-le k (pieces device seal) (omega (arith, count, below)) in
+          let size′ : length (take k (a .items)) ≡ k = length-take-le k (a .items) (omega (arith, within′)) in
+          ext-getD [] (take k (pieces device seal)) (take k (a .items)) (size ∙ sym size′)
+          (λ i h.
+          let low : i < k = rw size at h in
+          getD-take k (pieces device seal) i [] low ∙ same i low ∙ sym (getD-take k (a .items) i [] low))
+
+      not-replayed : j ≡ k
+      not-replayed =
+          let stands : Stands (dueBehind keys (take k (pieces device seal))) (presented device seal k) = rw cut-so (rw (fields .ratchet) at (ok .place k below)) in
+          let moved : Stands (dueBehind keys (take k (a .items))) (itemOf a j) = rw front-same at (rw one-item at stands) in
+          stands-once keys some (a .items) (length (a .items)) (le-refl _) (λ i h. good .items i h .place) k j within′ inside moved
+
     -- as long as the messages below b are the account's, so are the items, and there are so many
     module _ (m : ℕ) (low : m ≤ secured f a) (same : (k : ℕ) → k < m → presentedMessage device logs seal k ≡ keptMessage f a k) where
       reached : (k : ℕ) → k ≤ m → (k ≤ n) × ((j : ℕ) → j < k → presented device seal j ≡ itemOf a j)
@@ -227,6 +256,9 @@ module _ (f : Fed) (a : Account) (good : Good f a) (device logs lengths seal : L
           differs = differs;
           tag = tagged k there;
           burned = good .burned _ ∙ lt-ltb _ (front a) (of-burned k low (before .1) (before .0));
+          fresh = λ j inside said.
+              let here = not-replayed k there (within k low) (before .1) j inside said in
+              differs (said ∙ ap (keptMessage f a) here);
         }
 
 pub compromise : (f : Fed) (a : Account) → Good f a → (device logs lengths seal : List ℕ)

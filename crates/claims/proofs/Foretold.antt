@@ -23,7 +23,7 @@ use Rattle.claims.proofs.Plan.{Ready, append-ready, interval-ready, bur
 use Rattle.claims.proofs.Steps.Begun.{Begun, begun}
 
 -- appends and closes go on with any history that left no chunk waiting
-history-on : (f : Fed) (a : Account) (first later : List Call) → HistoryFrom f a first → HistoryFrom f (accountFrom f a first) later → HistoryFrom f a (first ++ later)
+pub history-on : (f : Fed) (a : Account) (first later : List Call) → HistoryFrom f a first → HistoryFrom f (accountFrom f a first) later → HistoryFrom f a (first ++ later)
 unfolding HistoryFrom accountFrom
 history-on f a [] later before behind = behind
 history-on f a (call ∷ first) later before behind = (before .0, history-on f (accountStep f a call) first later (before .1) behind)

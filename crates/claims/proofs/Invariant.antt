@@ -56,7 +56,7 @@ module _ (f : Fed) (begun : Begun f) where
         standing = λ e. absurd (true≢false (sym e));
       }
 
-  lost-good : (a : Account) → Good f a → (lost : Bool) → (lost ≡ true → 0 < length (a .items)) → Good f (withLost a lost)
+  pub lost-good : (a : Account) → Good f a → (lost : Bool) → (lost ≡ true → 0 < length (a .items)) → Good f (withLost a lost)
   lost-good a good lost standing =
       record {
         offset = good .offset;

@@ -11,4 +11,5 @@ pub mod Sets
 pub mod Uncut
 pub mod Plan
 pub mod Foretold
+pub mod Back
 pub mod Rows

@@ -26,7 +26,7 @@ use Rattle.claims.proofs.Good.{Good, front}
 use Rattle.claims.proofs.Invariant.{step-good, good}
 use Rattle.claims.proofs.Steps.Agrees.{step-done, step-refused}
 use Rattle.claims.proofs.Steps.Begun.{Begun, begun}
-use Rattle.claims.proofs.Steps.Fillers.{left, filled, fill, after-close}
+use Rattle.claims.proofs.Steps.Fillers.{left, filled, fill, fill-free, after-close}
 use Rattle.claims.proofs.Steps.Opening.{no-chunk, no-offset}
 use Rattle.claims.proofs.Steps.Stepping.{step-cases, step-waiting}
 use Rattle.claims.proofs.Steps.StoreLeft.{front-whole, front-half, fold-front}
@@ -60,7 +60,7 @@ unfolding answersFrom accountFrom
 answers-on f a [] later = refl
 answers-on f a (call ∷ first) later = ap (λ (answers : List Answer). accountAnswer f a call ∷ answers) (answers-on f (accountStep f a call) first later)
 
-account-on : (f : Fed) (a : Account) (first later : List Call) → accountFrom f a (first ++ later) ≡ accountFrom f (accountFrom f a first) later
+pub account-on : (f : Fed) (a : Account) (first later : List Call) → accountFrom f a (first ++ later) ≡ accountFrom f (accountFrom f a first) later
 unfolding accountFrom
 account-on f a [] later = refl
 account-on f a (call ∷ first) later = account-on f (accountStep f a call) first later
@@ -184,11 +184,6 @@ module _ (f : Fed) (begun : Begun f) where
   fill-number zero a = omega arith
   fill-number (suc k) a = omega (arith, fill-number k (filled f a), step-number (withItem a (fillerDue f a)))
 
-  fill-free : (k : ℕ) (a : Account) → a .waiting ≡ 0 → fill f k a .waiting ≡ 0
-  unfolding fill
-  fill-free zero a free = free
-  fill-free (suc k) a free = fill-free k (filled f a) (step-waiting f (withItem a (fillerDue f a)))
-
   append-most : (a : Account) (phase : ℕ) (bytes : List ℕ) → number (accountStep f a (Append phase bytes)) ≤ suc (number a)
   unfolding accountRefused
   append-most a phase bytes =
@@ -208,7 +203,7 @@ module _ (f : Fed) (begun : Begun f) where
   unfolding accountDone accountRefused
   close-free a good free =
       by-cases (ℕ-discrete (accountRefusal f a Close) 0)
-      (λ e. rw (step-done f a Close e ∙ after-close f a (good .offset)) (fill-free (left f a) a free))
+      (λ e. rw (step-done f a Close e ∙ after-close f a (good .offset)) (fill-free f (left f a) a free))
       (λ e. rw (step-refused f a Close (ne-eqb (accountRefusal f a Close) 0 e)) free)
 
   -- neither burns a chunk where it is refused, and a close none at all

@@ -1,11 +1,13 @@
--- Without cuts and restarts no restart item is added, so the items stand in the order of their numbers.
+-- Without cuts no chunk waits and no restart is added, so the items stand in the order of their numbers.
 use mathlib.Core.Path.{_≡_, refl, sym, ap, _∙_}
+use mathlib.Core.Bool.{Bool, true, false, cond}
 use mathlib.Core.Logic.{by-cases}
 use mathlib.Core.List.{List, [], _∷_, _++_}
 use Prim.Native.Nat.{ℕ, zero, suc, _<_}
 use native.Mathlib.Nat.{le-refl}
 use native.Mathlib.Decide.{decLt}
 use native.Mathlib.Omega.{arith}
+use borrow.Author.Tests.{eqb-true}
 use lib.Dec.{eqb, ltb}
 use lib.ListN.{length, getD, take, length-append, List·getD-append}
 use lib.Seq.{getD-append-seam, take-length}
@@ -15,7 +17,7 @@ use Rattle.scheme.specs.Due.{dueBehind}
 use Rattle.scheme.specs.Acceptable.{Stands, NoRestart}
 use Rattle.scheme.proofs.Tests.{either}
 use Rattle.scheme.proofs.Due.{rank, due-number, in-order}
-use Rattle.claims.specs.Account.{Call, Open, Append, Close, Restart, Cut, Fed, Account, started, entryDue, fillerDue, withItem, withData, accountAppend, accountClose, accountRefusal, accountDone, accountRefused, accountStep, accountFrom, HistoryFrom}
+use Rattle.claims.specs.Account.{Call, Open, Append, Close, Restart, Cut, Fed, Account, started, entryDue, fillerDue, withItem, withData, accountAppend, accountClose, accountRestart, accountRefusal, accountDone, accountRefused, accountStep, accountFrom, Allowed, HistoryFrom}
 use Rattle.claims.specs.Claim.{Starts}
 use Rattle.claims.specs.Uncut.{Uncut, Straight}
 use Rattle.claims.proofs.Invariant.{good}
@@ -54,25 +56,29 @@ module _ (f : Fed) where
       let b = withItem a (fillerDue f a) in
       either Flat (ltb 0 (a .r .0)) (close-flat n _ (flat-on a _ (fillerDue f a) flat (step-items f b) (step-waiting f b) (λ kind. omega (arith, kind)))) flat
 
-  calls-flat : (calls : List Call) (a : Account) → Uncut calls → Flat a → Flat (accountFrom f a calls)
-  unfolding accountFrom accountStep accountDone accountRefused Uncut
-  calls-flat [] a uncut flat = flat
-  calls-flat (Open lengths sealLength ∷ calls) a uncut flat =
-      calls-flat calls _ uncut (either Flat (eqb (accountRefusal f a (Open lengths sealLength)) 0)
+  calls-flat : (calls : List Call) (a : Account) → Uncut calls → HistoryFrom f a calls → Flat a → Flat (accountFrom f a calls)
+  unfolding accountFrom accountStep accountDone accountRefused Uncut HistoryFrom Allowed
+  calls-flat [] a uncut history flat = flat
+  calls-flat (Open lengths sealLength ∷ calls) a uncut history flat =
+      calls-flat calls _ uncut (history .1) (either Flat (eqb (accountRefusal f a (Open lengths sealLength)) 0)
       (record { plain = flat .plain; free = flat .free }) (record { plain = flat .plain; free = flat .free }))
-  calls-flat (Append phase bytes ∷ calls) a uncut flat =
-      calls-flat calls _ uncut (either Flat (eqb (accountRefusal f a (Append phase bytes)) 0) (entry-flat a phase bytes flat) flat)
-  calls-flat (Close ∷ calls) a uncut flat =
-      calls-flat calls _ uncut (either Flat (eqb (accountRefusal f a Close) 0) (close-flat (ratchet (f .store)) a flat) flat)
-  calls-flat (Restart number ∷ calls) a uncut flat = absurd uncut
-  calls-flat (Cut ∷ calls) a uncut flat = absurd uncut
+  calls-flat (Append phase bytes ∷ calls) a uncut history flat =
+      calls-flat calls _ uncut (history .1) (either Flat (eqb (accountRefusal f a (Append phase bytes)) 0) (entry-flat a phase bytes flat) flat)
+  calls-flat (Close ∷ calls) a uncut history flat =
+      calls-flat calls _ uncut (history .1) (either Flat (eqb (accountRefusal f a Close) 0) (close-flat (ratchet (f .store)) a flat) flat)
+  calls-flat (Restart number ∷ calls) a uncut history flat = calls-flat calls _ uncut (history .1) (go (eqb (accountRefusal f a (Restart number)) 0) refl)
+    where
+      go : (t : Bool) → eqb (accountRefusal f a (Restart number)) 0 ≡ t → Flat (cond t (accountRestart f a number) a)
+      go true e = absurd (omega (arith, history .0 (eqb-true (accountRefusal f a (Restart number)) 0 e) .0, flat .free))
+      go false e = flat
+  calls-flat (Cut ∷ calls) a uncut history flat = absurd uncut
 
 pub straight : (f : Fed) → Starts f → (calls : List Call) → HistoryFrom f (started f) calls → Uncut calls → Straight f calls
 unfolding started
 straight f starts calls history uncut =
     let a = accountFrom f (started f) calls in
     let g = good f starts calls history in
-    let flat = calls-flat f calls (started f) uncut (record { plain = λ k h. absurd (omega arith); free = refl }) in
+    let flat = calls-flat f calls (started f) uncut history (record { plain = λ k h. absurd (omega arith); free = refl }) in
     let n = ratchet (f .store) in
     let some = begun f starts .store .ratchetLow in
     let stand : (k : ℕ) → k < length (a .items) → Stands (dueBehind n (take k (a .items))) (getD (a .items) k []) = λ k h. g .items k h .place in

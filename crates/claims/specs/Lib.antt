@@ -6,4 +6,5 @@ pub mod Standby
 pub mod Sets
 pub mod Uncut
 pub mod Plan
+pub mod Back
 pub mod Rows

@@ -23,7 +23,7 @@ use Rattle.claims.specs.Account.{Fed, Account, dueKey, fillerDue, sealRe
 use Rattle.claims.proofs.Good.{Good, memoryWith}
 use Rattle.claims.proofs.Steps.Begun.{Begun}
 use Rattle.claims.proofs.Steps.Adding.{Adds, half-free, made-own, item-due, stands-there, adds-good}
-use Rattle.claims.proofs.Steps.Stepping.{step-cases, step-items}
+use Rattle.claims.proofs.Steps.Stepping.{step-cases, step-items, step-waiting}
 use Rattle.claims.proofs.Steps.StoreLeft.{chunk-below}
 
 -- the length of the filler that is due
@@ -102,6 +102,17 @@ module _ (f : Fed) where
   close-fill (suc n) zero a below e h = rw (le-ltb 0 (a .r .0) (omega (arith, left-none a below e)))
   close-fill (suc n) (suc k) a below e h =
       rw (lt-ltb 0 (a .r .0) (left-some a k e .0)) (close-fill n k (filled f a) (filled-below a below) (left-next a k below e) (omega arith))
+
+  -- at offset 0, and with no chunk waiting where none did before
+  pub fill-ends : (k : ℕ) (a : Account) → a .r .0 < ratchet (f .store) → left f a ≡ k → fill f k a .r .0 ≡ 0
+  unfolding fill
+  fill-ends zero a below e = left-none a below e
+  fill-ends (suc k) a below e = fill-ends k (filled f a) (filled-below a below) (left-next a k below e)
+
+  pub fill-free : (k : ℕ) (a : Account) → a .waiting ≡ 0 → fill f k a .waiting ≡ 0
+  unfolding fill
+  fill-free zero a free = free
+  fill-free (suc k) a free = fill-free k (filled f a) (step-waiting f (withItem a (fillerDue f a)))
 
   pub fill-count : (k : ℕ) (a : Account) → length (fill f k a .items) ≡ length (a .items) + k
   unfolding fill
