@@ -14,9 +14,9 @@ pub enum Outcome {
     /// The first b items presented are the device's, and the logs have in their
     /// areas the data that it wrote.
     Kept,
-    /// An item below b has another message than the device's, and its tag is the
-    /// one that the key at its own chunk number and offset gives for it. The
-    /// device had burned that chunk.
+    /// An item below b has a message that none of the device's has, and its tag
+    /// is the one that the key at its own chunk number and offset gives for it.
+    /// The device had burned that chunk.
     Forged,
     /// The store has the original of a chunk that the device had burned.
     Restored,
@@ -64,10 +64,11 @@ impl Seized<'_> {
     }
 
     fn is_forged(&self) -> bool {
-        let mut pairs = self.items.iter().zip(self.held());
-        pairs.any(|(item, own)| {
-            let same_message = item.head == own.head && self.has_data_of(item, own);
-            !same_message && self.has_right_tag(item)
+        let mut below = self.items.iter().take(self.held().len());
+        below.any(|item| {
+            let mut own = self.account.items().iter();
+            let is_sealed = own.any(|own| item.head == own.head && self.has_data_of(item, own));
+            !is_sealed && self.has_right_tag(item)
         })
     }
 
