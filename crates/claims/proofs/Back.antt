@@ -1,23 +1,22 @@
 -- A device comes back from a cut: the four calls are allowed and not refused, one after another, and leave no chunk half used.
 use mathlib.Core.Path.{_≡_, refl, sym, ap, _∙_}
-use mathlib.Core.Bool.{Bool, true, false, not, true≢false}
+use mathlib.Core.Bool.{true, false, true≢false}
 use mathlib.Core.List.{List, [], _∷_, _++_}
-use Prim.Native.Nat.{ℕ, zero, suc, _+_, _-_, _*_, _≤_, _<_}
+use Prim.Native.Nat.{ℕ, suc, _+_, _-_, _*_}
 use native.Mathlib.Omega.{arith}
-use lib.Dec.{eqb, ltb}
 use lib.ListN.{length, length-append}
 use borrow.Author.Tests.{eq-eqb, ne-eqb, lt-ltb, le-ltb}
 use Rattle.scheme.specs.Bytes.{joined}
-use Rattle.scheme.specs.Rules.{refusalBy, anyTrue, allTrue, someFrom, row}
-use Rattle.scheme.specs.Store.{logCapacity, phases, chunkCount, ratchet}
+use Rattle.scheme.specs.Rules.{allTrue, someFrom, row}
+use Rattle.scheme.specs.Store.{chunkCount, ratchet}
 use Rattle.scheme.specs.Items.{fillerLength, restartLength}
 use Rattle.scheme.proofs.Tests.{not-true, not-not}
 use Rattle.scheme.proofs.Rules.{_also_, none-true, in-range, silent}
 use Rattle.scheme.proofs.Scans.{none-from, nowhere, row-is}
 use Rattle.scheme.proofs.Areas.{joined-last}
 use Rattle.scheme.proofs.Acceptance.Stores.{listed-is}
-use Rattle.claims.specs.Account.{Call, Open, Close, Restart, Cut, Fed, Account, started, carried, lengthsReached, sealReached, restartDue, withLost, withItem, stepOn, losing, accountRestart, afterClose, afterCut, accountOpenRules, accountCloseRules, accountRestartRules, accountRefusal, accountDone, accountStep, accountAnswer, accountFrom, answersFrom, NoneHalfUsed, Allowed, HistoryFrom}
-use Rattle.claims.specs.Claim.{Starts, Claim, untouched}
+use Rattle.claims.specs.Account.{Call, Open, Close, Restart, Cut, Fed, Account, started, carried, lengthsReached, sealReached, restartDue, withLost, withItem, accountRestart, afterClose, afterCut, accountOpenRules, accountCloseRules, accountRestartRules, accountRefusal, accountDone, accountStep, accountAnswer, accountFrom, answersFrom, NoneHalfUsed, Allowed, HistoryFrom}
+use Rattle.claims.specs.Claim.{Starts}
 use Rattle.claims.specs.Plan.{firstRefusal}
 use Rattle.claims.specs.Back.{back, MayComeBack, ComesBack}
 use Rattle.claims.proofs.Good.{Good, front}
@@ -25,7 +24,7 @@ use Rattle.claims.proofs.Invariant.{cutHalf, cut-good, lost-good, step-
 use Rattle.claims.proofs.Claim.{claim}
 use Rattle.claims.proofs.Plan.{account-on}
 use Rattle.claims.proofs.Foretold.{history-on}
-use Rattle.claims.proofs.Steps.Agrees.{answer-done, step-done}
+use Rattle.claims.proofs.Steps.Agrees.{step-done}
 use Rattle.claims.proofs.Steps.Begun.{Begun, begun}
 use Rattle.claims.proofs.Steps.Device.{lengths-at, lengths-length}
 use Rattle.claims.proofs.Steps.Fillers.{left, fill, fill-ends, fill-free, fill-count, after-close, close-sealed}

@@ -1,8 +1,7 @@
 -- The second part of the claim: material that the audit accepts has the controller's first b items and their data, or a message that the
 -- controller did not seal, with a right tag under a key of a chunk that it has burned, or it shows such a chunk. Assumes what holds of the account
 -- (Good).
-use mathlib.Core.Path.{_≡_, refl, sym, ap, ap₂, _∙_}
-use mathlib.Core.Bool.{Bool, true, false, cond}
+use mathlib.Core.Path.{_≡_, sym, ap, ap₂, _∙_}
 use mathlib.Core.Logic.{_⊎_, inl, inr, ⊎-elim, by-cases}
 use mathlib.Core.List.{List, [], _∷_, List-discrete}
 use Prim.Native.Nat.{ℕ, zero, suc, _≤_, _<_}
@@ -12,7 +11,7 @@ use native.Mathlib.Omega.{arith}
 use lib.Dec.{eqb}
 use lib.ListN.{length, getD, take}
 use lib.Seq.{length-take-le, getD-take, ext-getD, take-length}
-use borrow.Author.Tests.{eqb-true, eqb-false, eq-eqb, lt-ltb, le-ltb}
+use borrow.Author.Tests.{eq-eqb, lt-ltb, le-ltb}
 use Rattle.scheme.specs.Store.{chunkCount, ratchet}
 use Rattle.scheme.specs.Items.{pieces, chunkField, headLength, itemTag, dataOf, messageOf}
 use Rattle.scheme.specs.Due.{KeyPlace, keyPlace, ownPlace, dueFrom, dueBehind}
@@ -25,7 +24,7 @@ use Rattle.scheme.proofs.Items.{head-fits, same-data, same-item, same-key}
 use Rattle.scheme.proofs.Tags.{same-tag}
 use Rattle.scheme.proofs.Due.{after-chunk, due-on, stands-once}
 use Rattle.scheme.proofs.Acceptance.{accepts, acceptable-pieces}
-use Rattle.claims.specs.Account.{Fed, Account, carried}
+use Rattle.claims.specs.Account.{Fed, Account}
 use Rattle.claims.specs.Claim.{Intact, Forged, Shown, logsLeft, lastBurned, upToFirst, secured}
 use Rattle.claims.proofs.Good.{Good, itemOf, front}
 use Rattle.claims.proofs.Steps.Fits.{item-burned}

@@ -2,10 +2,9 @@
 -- left last just as `least_ratchet` says (`foretold`).
 use mathlib.Core.Path.{_≡_, ap, _∙_}
 use mathlib.Core.List.{List, [], _∷_, _++_}
-use Prim.Native.Nat.{ℕ, _≤_, _<_}
+use Prim.Native.Nat.{_≤_, _<_}
 use native.Mathlib.Nat.{lt-of-not-le}
 use native.Mathlib.Omega.{arith}
-use lib.ListN.{length}
 use Rattle.scheme.specs.Store.{chunkCount, ratchet}
 use Rattle.planning.specs.Chunks.{roundedUp, chunksFor}
 use Rattle.planning.specs.Ratchet.{Planned}

@@ -2,11 +2,11 @@
 -- restart with the number of that chunk's items and a close go on with it, and what they leave is accepted.
 use mathlib.Core.Path.{_≡_}
 use mathlib.Core.List.{List, [], _∷_, _++_}
-use Prim.Native.Nat.{ℕ, suc, _+_, _-_, _*_, _≤_, _<_}
+use Prim.Native.Nat.{suc, _+_, _-_, _*_, _≤_, _<_}
 use lib.ListN.{length}
 use Rattle.scheme.specs.Store.{chunkCount, ratchet}
 use Rattle.scheme.specs.Items.{fillerLength, restartLength}
-use Rattle.claims.specs.Account.{Call, Open, Close, Restart, Cut, Fed, Account, started, accountFrom, answersFrom, lengthsReached, sealReached, HistoryFrom}
+use Rattle.claims.specs.Account.{Call, Open, Close, Restart, Cut, Fed, Account, started, answersFrom, lengthsReached, sealReached, HistoryFrom}
 use Rattle.claims.specs.Claim.{untouched}
 use Rattle.claims.specs.Plan.{firstRefusal}
 

@@ -13,10 +13,10 @@ use Rattle.scheme.proofs.Burning.{zeroed}
 use Rattle.claims.specs.Account.{Cut, Fed, Account, losing, afterCut, accountRefusal, accountCount, accountDone, accountStep, accountAnswer}
 use Rattle.claims.specs.Run.{deviceAfter, afterLoss}
 use Rattle.claims.specs.Claim.{storeLeft}
-use Rattle.claims.proofs.Good.{Good, front}
+use Rattle.claims.proofs.Good.{Good}
 use Rattle.claims.proofs.Steps.Agrees.{Agrees, same-device}
 use Rattle.claims.proofs.Steps.Begun.{Begun}
-use Rattle.claims.proofs.Steps.Device.{held, stateOf, deviceOf}
+use Rattle.claims.proofs.Steps.Device.{stateOf, deviceOf}
 use Rattle.claims.proofs.Invariant.{cutHalf, cut-good, losing-good}
 use Rattle.claims.proofs.Steps.Opening.{no-offset, zero-held, store-same}
 use Rattle.claims.proofs.Steps.StoreLeft.{front-half, store-left}

@@ -1,14 +1,14 @@
 -- A restart that a history allows gives an account all that one more item asks for.
 use mathlib.Core.Path.{_≡_, refl, sym, ap, subst, _∙_}
 use mathlib.Core.Logic.{inr}
-use mathlib.Core.List.{List, [], _++_}
+use mathlib.Core.List.{[], _++_}
 use Prim.Native.Nat.{ℕ, suc, _+_, _-_, _≤_, _<_}
 use native.Mathlib.Omega.{arith}
 use lib.ListN.{length}
 use borrow.Author.Tests.{ne-eqb}
 use Rattle.scheme.specs.Store.{chunkCount, ratchet}
 use Rattle.scheme.specs.Items.{itemMessage, chunkNumber, ratchetOffset, restartHead, restartHeadLength, restartLength}
-use Rattle.scheme.specs.Due.{keyPlace, ownPlace, dueBehind}
+use Rattle.scheme.specs.Due.{keyPlace, dueBehind}
 use Rattle.scheme.specs.Keys.{tagOf}
 use Rattle.scheme.specs.Areas.{areasIn, none}
 use Rattle.scheme.specs.Acceptable.{Stands, restarts}
