@@ -409,10 +409,11 @@ uint64_t pahyndoi_close(pahyndoi_state *state,
  *     the last item, and takes that item's ratchet offset plus 1. Where this is
  *     below N the chunk was half used: firmware restarts with it as the number.
  *     Where it is N the chunk was used up, and where there is no item nothing
- *     was used: then no restart is due. (The state's offset after the last
- *     append, close or restart is the same number, or 0 where no restart is
- *     due. Firmware may keep that as well; not the one after an open, which is
- *     0 although a restart may be due.)
+ *     was used: then no restart is due. (The state's offset after the last call
+ *     that wrote an item is the same number, or 0 where no restart is due.
+ *     Firmware may keep that as well; not the one after any other call: after
+ *     an open it is 0 although a restart may be due, and a close that writes
+ *     nothing, or a refused append, leaves it so.)
  *  4. It goes on as after any open.
  *
  * A restart item is an item like any other, at ratchet offset 0: where the next
