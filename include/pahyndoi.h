@@ -421,8 +421,9 @@ uint64_t pahyndoi_close(pahyndoi_state *state,
  *
  * No call refuses these, the audit does, and nothing mends them later:
  *  - an append where a restart is due (17);
- *  - a restart where none is due, or with another number from 1 to N - 1 (17):
- *    restart right after an open, and only where step 3 says so;
+ *  - at offset 0, behind a burned chunk, a restart where none is due, or with
+ *    another number from 1 to N - 1 (17): restart right after an open, and only
+ *    where step 3 says so;
  *  - an open with other lengths than those reached, and a call after it.
  * And material that is presented while a restart is due (22): a close in its
  * place writes nothing, for after an open the offset is 0. Restart, then close.
