@@ -211,9 +211,9 @@ uint32_t pahyndoi_hmac_sha256(const uint8_t *key, size_t key_length,
  *
  * What is due is a chunk and a ratchet offset: 0 and 0 at first, behind an item
  * the next offset of its chunk, and behind offset N - 1 the next chunk at
- * offset 0. An entry and a filler stand where it is due. A restart item is due
- * where the offset due is above 0, so in a half-used chunk: it stands in the
- * next chunk at offset 0, and its number is the offset that was due.
+ * offset 0. An entry and a filler stand where it is due. A restart item may
+ * stand only where the offset due is above 0, so where a chunk is half used: in
+ * the next chunk at offset 0, with the offset that was due as its number.
  *
  * Data limit and log capacity are the store's, 512 and 8,192 in kind 1. The
  * covered bytes of a phase end where the last of its entries that the audit has
