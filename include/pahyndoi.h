@@ -433,8 +433,9 @@ uint64_t pahyndoi_close(pahyndoi_state *state,
  *    restart takes a key of the next. pahyndoi_least_ratchet knows of no cuts:
  *    count each as a close, and its restart as an entry behind it.
  *  - Where the cut chunk was the card's last, there is no next: restart is
- *    refused by 11, and the audit refuses what comes home by 22. Collect the
- *    card before its last chunk is begun, or close right behind what takes it.
+ *    refused by 11, or by 10, which comes first, where the seal memory has no
+ *    room either, and the audit refuses what comes home by 22. Collect the card
+ *    before its last chunk is begun, or close right behind what takes it.
  *  - The seal memory needs room for the restart item (10). One of
  *    PAHYNDOI_SEAL_SIZE_OF bytes has it.
  *  - With N = 1 no chunk is ever half used, and every restart is refused by 27.
