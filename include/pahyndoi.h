@@ -322,7 +322,8 @@ typedef struct pahyndoi_state pahyndoi_state;
  * last phase's length. The number answered is 0.
  *
  * Refused in this order: 2, 3, 4, 5, 6 (of 6, a seal length above seal_size
- * alone). A refused open leaves a state of zeros.
+ * alone). A refused open leaves a state of zeros: half way through a chunk it
+ * takes the state as a power cut does, and the remedy is the same.
  *
  * Open with the lengths reached: those of the state after the last call that
  * was not refused. Where a state was lost with a chunk half used, as by a power
