@@ -4,7 +4,7 @@ use crate::memory::fill;
 use crate::memory::within;
 use crate::record::byte;
 use crate::record::size;
-use codec::layout::HEADER_LENGTH;
+use layout::HEADER_LENGTH;
 use scheme::ChunkNumber;
 use scheme::RatchetOffset;
 use scheme::State;

@@ -1,3 +1,3 @@
--- What the crate's contracts cite beside the definitions of `scheme` and `codec`.
+-- What the crate's contracts cite beside the definitions of `scheme`, `layout` and `codec`.
 pub mod Checked
 pub mod First

@@ -1,5 +1,4 @@
 -- The laws that the functions' proofs cite, here and in the crates above.
 pub mod Headers
-pub mod Counts
 pub mod Stores
 pub mod Readings

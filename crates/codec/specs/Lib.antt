@@ -1,6 +1,5 @@
--- What the crate's contracts cite beside the definitions of `scheme`.
+-- What the crate's contracts cite beside the definitions of `scheme` and `layout`.
 pub mod Header
-pub mod Places
 pub mod Shape
 pub mod Store
 pub mod Reading

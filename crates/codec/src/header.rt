@@ -1,17 +1,18 @@
 // A key store's header, read out of any bytes.
 ghost use mathlib.Core.Path.{_≡_};
 ghost use Rattle.scheme.specs.Store.{unheaded};
-ghost use Rattle.codec.specs.Header.{headerOf, Headed, readHeader};
-use crate::layout::DATA_LIMIT;
-use crate::layout::HEADER_LENGTH;
-use crate::layout::LOG_CAPACITY;
-use crate::layout::OWN_SET_HEADER_LENGTH;
-use crate::layout::OWN_SET_KIND;
-use crate::layout::STORE_KIND;
-use crate::layout::TAG_LENGTH;
-use crate::places::chunk_place;
+ghost use Rattle.layout.specs.Header.{headerOf};
+ghost use Rattle.codec.specs.Header.{Headed, readHeader};
 use bytes::words::read_u32;
 use bytes::words::wide;
+use layout::DATA_LIMIT;
+use layout::HEADER_LENGTH;
+use layout::LOG_CAPACITY;
+use layout::OWN_SET_HEADER_LENGTH;
+use layout::OWN_SET_KIND;
+use layout::STORE_KIND;
+use layout::TAG_LENGTH;
+use layout::places::chunk_place;
 use scheme::Header;
 use scheme::ranges::out_of_range;
 

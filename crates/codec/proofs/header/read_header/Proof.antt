@@ -4,7 +4,7 @@ use mathlib.Core.Path.{_≡_, sym, ap, _∙_}
 use Prim.Native.Nat.{_+_, _*_}
 use Rattle.scheme.specs.Store.{chunkCount, chunkPlace}
 use Rattle.scheme.specs.Fields.{badFields}
-use Rattle.codec.specs.Header.{headerOf}
+use Rattle.layout.specs.Header.{headerOf}
 use Rattle.codec.specs.declared.header.Reading.the-variants.{Store}
 use Rattle.codec.proofs.Headers.{headed, no-header, bad-field, bad-length, good-header}
 use borrow.Author.Needs.{needs}

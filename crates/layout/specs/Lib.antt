@@ -1,0 +1,3 @@
+-- What the crate's contracts cite beside the definitions of `scheme`.
+pub mod Header
+pub mod Places
