@@ -1,4 +1,3 @@
 -- The laws that the functions' proofs cite, here and in the crates above.
 pub mod Headers
 pub mod Stores
-pub mod Readings

@@ -2,4 +2,3 @@
 pub mod Header
 pub mod Shape
 pub mod Store
-pub mod Reading
