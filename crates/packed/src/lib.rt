@@ -1,7 +1,4 @@
-// Open, append, close, restart, the audit, the lookups and the plans with an answer of one word.
-mod answers;
-pub mod auditing;
-mod lengths;
-pub mod looking;
+// Open, append, close, restart and the plans with an answer of one word.
+pub mod answers;
 pub mod plans;
 pub mod sealing;

@@ -1,13 +1,13 @@
--- `packed::auditing::audit_packed` meets its contract: the lengths read of the bytes are audited as those that the definition lists.
+-- `audited::auditing::audit_packed` meets its contract: the lengths read of the bytes are audited as those that the definition lists.
 use mathlib.Core.Path.{sym, ap, ap₂, _∙_}
 use native.Mathlib.Omega.{arith}
 use lib.Seq.{length-take-le}
 use borrow.Author.Needs.{needs}
 use Rattle.scheme.specs.Audit.{audit}
 use Rattle.packed.specs.Surface.{packed}
-use Rattle.packed.proofs.Listing.{same-audit}
-use Rattle.packed.proofs.auditing.audit_packed.Statement.{statement}
-use Rattle.packed.proofs.auditing.audit_packed.Tie as tie
+use Rattle.audited.proofs.Listing.{same-audit}
+use Rattle.audited.proofs.auditing.audit_packed.Statement.{statement}
+use Rattle.audited.proofs.auditing.audit_packed.Tie as tie
 
 count-lengths-requires : tie.Need-count-lengths-requires
 count-lengths-requires c κs = search needs

@@ -1,4 +1,4 @@
--- `packed::looking::data_at_packed` meets its contract: the lengths read of the bytes lead to the same place as those that the definition
+-- `audited::looking::data_at_packed` meets its contract: the lengths read of the bytes lead to the same place as those that the definition
 -- lists, and its two numbers are small.
 use mathlib.Core.Path.{sym, ap, ap₂, subst, _∙_}
 use Prim.Native.Nat.{_+_, _≤_}
@@ -9,10 +9,10 @@ use Rattle.lookup.specs.Lookup.{dataPlace}
 use Rattle.lookup.specs.declared.Place.{Place}
 use Rattle.lookup.proofs.Exactly.{place-small}
 use Rattle.scheme.specs.Sizes.{mostLogged}
 use Rattle.packed.specs.Surface.{packed}
-use Rattle.packed.proofs.Listing.{same-place}
-use Rattle.packed.proofs.looking.data_at_packed.Statement.{statement}
-use Rattle.packed.proofs.looking.data_at_packed.Tie as tie
+use Rattle.audited.proofs.Listing.{same-place}
+use Rattle.audited.proofs.looking.data_at_packed.Statement.{statement}
+use Rattle.audited.proofs.looking.data_at_packed.Tie as tie
 
 count-lengths-requires : tie.Need-count-lengths-requires
 count-lengths-requires c κs = search needs

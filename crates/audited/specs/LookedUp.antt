@@ -4,8 +4,8 @@ use mathlib.Core.List.{List}
 use Prim.Native.Nat.{ℕ, _+_, _≤_}
 use Rattle.scheme.specs.Sizes.{mostItems, mostLogged}
 use Rattle.lookup.specs.Lookup.{lookup, dataPlace}
 use Rattle.packed.specs.Surface.{packed}
-use Rattle.packed.specs.Lengths.{listed}
+use Rattle.audited.specs.Lengths.{listed}
 
 -- refusal and number
 pub record LookedUp (device auditor logs bytes seal : List ℕ) (phase offset r : ℕ) : Type 0 where

@@ -2,15 +2,15 @@
 ghost use mathlib.Core.Path.{_≡_};
 ghost use Prim.Native.Nat.{_<_, _^_};
 ghost use Rattle.lookup.specs.Answers.{foundRefusal, foundNumber};
 ghost use Rattle.packed.specs.Surface.{packed};
-ghost use Rattle.packed.specs.LookedUp.{LookedUp, Located};
-use crate::answers::code;
-use crate::answers::refused_code;
+ghost use Rattle.audited.specs.LookedUp.{LookedUp, Located};
 use crate::lengths::count_lengths;
 use crate::lengths::read_lengths;
 use lookup::Found;
 use lookup::data_place;
 use lookup::item_at;
+use packed::answers::code;
+use packed::answers::refused_code;
 
 // `lookup::item_at` with the lengths that the bytes give: what it answers in one word.
 pub fn item_at_packed(

@@ -2,7 +2,7 @@
 ghost use mathlib.Core.Path.{_≡_};
 ghost use Prim.Native.Nat.{_*_, _≤_};
 ghost use lib.ListN.{length, take};
-ghost use Rattle.packed.specs.Lengths.{words, Counted};
+ghost use Rattle.audited.specs.Lengths.{words, Counted};
 use bytes::words::read_u32;
 use scheme::ranges::MAX_PHASES;
 

@@ -1,8 +1,8 @@
--- `packed::looking::found_code` meets its contract: an item found has the refusal 0, and both kinds have their number.
+-- `audited::looking::found_code` meets its contract: an item found has the refusal 0, and both kinds have their number.
 use native.Mathlib.Omega.{arith}
 use borrow.Author.Needs.{needs}
-use Rattle.packed.proofs.looking.found_code.Statement.{statement}
-use Rattle.packed.proofs.looking.found_code.Tie as tie
+use Rattle.audited.proofs.looking.found_code.Statement.{statement}
+use Rattle.audited.proofs.looking.found_code.Tie as tie
 
 enum-known-found : tie.Need-enum-known-found
 enum-known-found c = search needs

@@ -1,14 +1,14 @@
--- `packed::looking::item_at_packed` meets its contract: the lengths read of the bytes lead to the same lookup as those that the definition lists.
+-- `audited::looking::item_at_packed` meets its contract: the lengths read of the bytes lead to the same lookup as those that the definition lists.
 use mathlib.Core.Path.{sym, ap, ap₂, _∙_}
 use native.Mathlib.Omega.{arith}
 use lib.Seq.{length-take-le}
 use borrow.Author.Needs.{needs}
 use Rattle.scheme.specs.Audit.{Said}
 use Rattle.lookup.specs.Lookup.{lookup}
 use Rattle.packed.specs.Surface.{packed}
-use Rattle.packed.proofs.Listing.{same-lookup}
-use Rattle.packed.proofs.looking.item_at_packed.Statement.{statement}
-use Rattle.packed.proofs.looking.item_at_packed.Tie as tie
+use Rattle.audited.proofs.Listing.{same-lookup}
+use Rattle.audited.proofs.looking.item_at_packed.Statement.{statement}
+use Rattle.audited.proofs.looking.item_at_packed.Tie as tie
 
 count-lengths-requires : tie.Need-count-lengths-requires
 count-lengths-requires c κs = search needs

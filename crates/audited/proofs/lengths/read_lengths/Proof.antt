@@ -1,4 +1,4 @@
--- `packed::lengths::read_lengths` meets its contract. The loop's invariant: the first i lengths are the first i numbers of the bytes.
+-- `audited::lengths::read_lengths` meets its contract. The loop's invariant: the first i lengths are the first i numbers of the bytes.
 use mathlib.Core.Path.{_≡_, refl, sym, ap, _∙_}
 use mathlib.Core.List.{List, [], _∷_, _++_}
 use Prim.Native.Nat.{_-_, _*_, _≤_}
@@ -9,10 +9,10 @@ use borrow.Author.Needs.{needs}
 use lib.ListN.{length, take, length-set}
 use lib.Seq.{take-suc-set}
 use Rattle.scheme.specs.Bytes.{num, part}
-use Rattle.packed.specs.Lengths.{words}
-use Rattle.packed.proofs.Listing.{no-words, one-length-more}
-use Rattle.packed.proofs.lengths.read_lengths.Statement.{statement}
-use Rattle.packed.proofs.lengths.read_lengths.Tie as tie
+use Rattle.audited.specs.Lengths.{words}
+use Rattle.audited.proofs.Listing.{no-words, one-length-more}
+use Rattle.audited.proofs.lengths.read_lengths.Statement.{statement}
+use Rattle.audited.proofs.lengths.read_lengths.Tie as tie
 
 abbrev Inv-loop : tie.InvT-loop
 Inv-loop bytes count lengths₀ i₀ lengths i = (i ≤ count) × (take i lengths ≡ words i bytes) × (length lengths ≡ 8)

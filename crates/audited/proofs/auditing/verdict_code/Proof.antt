@@ -1,8 +1,8 @@
--- `packed::auditing::verdict_code` meets its contract: an accepted verdict has the refusal 0, and both kinds have their number.
+-- `audited::auditing::verdict_code` meets its contract: an accepted verdict has the refusal 0, and both kinds have their number.
 use native.Mathlib.Omega.{arith}
 use borrow.Author.Needs.{needs}
-use Rattle.packed.proofs.auditing.verdict_code.Statement.{statement}
-use Rattle.packed.proofs.auditing.verdict_code.Tie as tie
+use Rattle.audited.proofs.auditing.verdict_code.Statement.{statement}
+use Rattle.audited.proofs.auditing.verdict_code.Tie as tie
 
 enum-known-verdict : tie.Need-enum-known-verdict
 enum-known-verdict c = search needs

@@ -19,7 +19,7 @@ use Rattle.scheme.proofs.Acceptance.Stores.{key-store}
 use Rattle.scheme.proofs.Rules.{any-at}
 use Rattle.lookup.specs.Lookup.{lookup, dataPlace}
 use Rattle.lookup.proofs.Looking.{audit-first, nowhere}
-use Rattle.packed.specs.Lengths.{words, listed, Counted}
+use Rattle.audited.specs.Lengths.{words, listed, Counted}
 
 -- ---- the numbers of bytes
 

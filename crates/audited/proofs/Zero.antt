@@ -7,8 +7,8 @@ use native.Mathlib.Omega.{arith}
 use Rattle.lookup.specs.Lookup.{lookup}
 use Rattle.lookup.proofs.Looking.{nowhere}
 use Rattle.lookup.proofs.Exactly.{holds-asked}
-use Rattle.packed.specs.Lengths.{listed}
-use Rattle.packed.specs.LookedUp.{Located}
+use Rattle.audited.specs.Lengths.{listed}
+use Rattle.audited.specs.LookedUp.{Located}
 
 module _ (device auditor logs bytes seal : List ℕ) (phase offset r : ℕ) (located : Located device auditor logs bytes seal phase offset r) where
   abbrev lengths : List ℕ

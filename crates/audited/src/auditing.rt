@@ -2,12 +2,12 @@
 ghost use mathlib.Core.Path.{_≡_};
 ghost use Prim.Native.Nat.{_<_, _^_};
 ghost use Rattle.scheme.specs.Answers.{verdictRefusal, verdictNumber};
 ghost use Rattle.packed.specs.Surface.{packed};
-ghost use Rattle.packed.specs.Audited.{Audited};
-use crate::answers::code;
-use crate::answers::refused_code;
+ghost use Rattle.audited.specs.Audited.{Audited};
 use crate::lengths::count_lengths;
 use crate::lengths::read_lengths;
+use packed::answers::code;
+use packed::answers::refused_code;
 use scheme::Verdict;
 
 // `audit::audit` of the lengths that the bytes give: what it answers in one word.
