@@ -1,5 +1,4 @@
 -- What the crate's contracts cite beside the definitions of `scheme`.
 pub mod Material
-pub mod Rules
 pub mod Tag
 pub mod Step
