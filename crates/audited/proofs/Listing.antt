@@ -17,8 +17,8 @@ use Rattle.scheme.specs.Store.{phases, logCapacity, badStore, badLogs, burnedLa
 use Rattle.scheme.specs.Audit.{Said, audit, materialRules}
 use Rattle.scheme.proofs.Acceptance.Stores.{key-store}
 use Rattle.scheme.proofs.Rules.{any-at}
-use Rattle.lookup.specs.Lookup.{lookup, dataPlace}
-use Rattle.lookup.proofs.Looking.{audit-first, nowhere}
+use Rattle.seeking.specs.Lookup.{lookup, dataPlace}
+use Rattle.seeking.proofs.Looking.{audit-first, nowhere}
 use Rattle.audited.specs.Lengths.{words, listed, Counted}
 
 -- ---- the numbers of bytes

@@ -4,8 +4,8 @@ use mathlib.Core.Logic.{_↔_}
 use mathlib.Core.List.{List}
 use Prim.Native.Nat.{ℕ}
 use native.Mathlib.Omega.{arith}
-use Rattle.lookup.specs.Lookup.{lookup}
-use Rattle.lookup.proofs.Looking.{nowhere}
+use Rattle.seeking.specs.Lookup.{lookup}
+use Rattle.seeking.proofs.Looking.{nowhere}
 use Rattle.lookup.proofs.Exactly.{holds-asked}
 use Rattle.audited.specs.Lengths.{listed}
 use Rattle.audited.specs.LookedUp.{Located}

@@ -3,7 +3,7 @@ use mathlib.Core.Path.{_≡_}
 use mathlib.Core.List.{List}
 use Prim.Native.Nat.{ℕ, _+_, _≤_}
 use Rattle.scheme.specs.Sizes.{mostItems, mostLogged}
-use Rattle.lookup.specs.Lookup.{lookup, dataPlace}
+use Rattle.seeking.specs.Lookup.{lookup, dataPlace}
 use Rattle.packed.specs.Surface.{packed}
 use Rattle.audited.specs.Lengths.{listed}
 

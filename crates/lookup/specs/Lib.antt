@@ -1,6 +1,4 @@
--- What a lookup says, what the calls promise by it, and what is claimed of it; then what the contracts of inner functions cite.
-pub mod Lookup
+-- What the calls promise, and what is claimed of lookups; then what the contract of the search cites.
 pub mod Answers
 pub mod Exactly
 pub mod Search
-pub mod Held

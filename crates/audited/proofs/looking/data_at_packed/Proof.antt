@@ -5,8 +5,8 @@ use Prim.Native.Nat.{_+_, _≤_}
 use native.Mathlib.Omega.{arith}
 use lib.Seq.{length-take-le}
 use borrow.Author.Needs.{needs}
-use Rattle.lookup.specs.Lookup.{dataPlace}
-use Rattle.lookup.specs.declared.Place.{Place}
+use Rattle.seeking.specs.Lookup.{dataPlace}
+use Rattle.seeking.specs.declared.Place.{Place}
 use Rattle.lookup.proofs.Exactly.{place-small}
 use Rattle.scheme.specs.Sizes.{mostLogged}
 use Rattle.packed.specs.Surface.{packed}

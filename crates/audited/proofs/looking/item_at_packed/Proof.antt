@@ -4,7 +4,7 @@ use native.Mathlib.Omega.{arith}
 use lib.Seq.{length-take-le}
 use borrow.Author.Needs.{needs}
 use Rattle.scheme.specs.Audit.{Said}
-use Rattle.lookup.specs.Lookup.{lookup}
+use Rattle.seeking.specs.Lookup.{lookup}
 use Rattle.packed.specs.Surface.{packed}
 use Rattle.audited.proofs.Listing.{same-lookup}
 use Rattle.audited.proofs.looking.item_at_packed.Statement.{statement}
