@@ -111,7 +111,7 @@ impl Device {
         self.state = self.open(&lengths[..1], seal_length).expect("a store");
     }
 
-    /// Hands the call what a seized device and its auditor have.
+    /// Hands the call what a compromised device and its auditor have.
     fn present<T>(&self, call: impl FnOnce(&Material) -> T) -> T {
         call(&Material {
             device_store: &self.store,

@@ -14,6 +14,8 @@ mod bits;
 mod calls;
 #[path = "histories/cards.rs"]
 mod cards;
+#[path = "histories/compromises.rs"]
+mod compromises;
 #[path = "histories/damage.rs"]
 mod damage;
 #[path = "histories/device.rs"]
@@ -60,8 +62,6 @@ mod restarts;
 mod rising;
 #[path = "histories/rows.rs"]
 mod rows;
-#[path = "histories/seizures.rs"]
-mod seizures;
 #[path = "histories/sets.rs"]
 mod sets;
 #[path = "histories/standby.rs"]
@@ -155,20 +155,20 @@ fn histories_are_those_of_their_account() {
     }
 }
 
-/// What is presented for a device that was seized behind a history.
+/// What is presented for a device that was compromised behind a history.
 #[test]
-fn seized_devices_keep_their_items_up_to_b() {
+fn compromised_devices_keep_their_items_up_to_b() {
     let run = Run::new(2000);
     let mut tallies = Tallies::default();
     for mut case in run.each() {
         let tally = tallies.of(case.own_set);
         let recorded = accounts::check_history(&mut case, tally);
-        case.step = "seized".to_string();
-        seizures::check(&mut case.random, tally, &recorded);
+        case.step = "compromised".to_string();
+        compromises::check(&mut case.random, tally, &recorded);
     }
     tallies.print();
     if run.whole {
-        for counted in seizures::COUNTED {
+        for counted in compromises::COUNTED {
             tallies.assert_more(counted, 30);
         }
     }

@@ -1,4 +1,4 @@
-//! What is claimed of a seized device: whatever is presented for it, at least
+//! What is claimed of a compromised device: whatever is presented for it, at least
 //! one of these is true.
 
 use super::Hmac;
@@ -26,7 +26,7 @@ pub enum Outcome {
 /// The auditor's store is the unused one.
 pub fn outcomes(hmac: Hmac, account: &Account, presented: &Presented) -> Vec<Outcome> {
     let header = account.header();
-    let seized = Seized {
+    let compromised = Compromised {
         hmac,
         account,
         header,
@@ -35,15 +35,15 @@ pub fn outcomes(hmac: Hmac, account: &Account, presented: &Presented) -> Vec<Out
     };
     let holds = [
         (Outcome::Refused, audit(hmac, presented).refusal != 0),
-        (Outcome::Kept, seized.is_kept()),
-        (Outcome::Forged, seized.is_forged()),
-        (Outcome::Restored, seized.is_restored()),
+        (Outcome::Kept, compromised.is_kept()),
+        (Outcome::Forged, compromised.is_forged()),
+        (Outcome::Restored, compromised.is_restored()),
     ];
     let true_ones = holds.into_iter().filter(|(_, holds)| *holds);
     true_ones.map(|(outcome, _)| outcome).collect()
 }
 
-struct Seized<'a> {
+struct Compromised<'a> {
     hmac: Hmac,
     account: &'a Account,
     header: Header,
@@ -52,7 +52,7 @@ struct Seized<'a> {
     items: Vec<Item>,
 }
 
-impl Seized<'_> {
+impl Compromised<'_> {
     /// The device's items below b.
     fn held(&self) -> &[Item] {
         &self.account.items()[..self.account.held_count()]

@@ -312,7 +312,7 @@ fn which_lists_with_cuts_are_histories() {
 
 /// b after each item, N = 3, with a restart behind two items.
 #[test]
-fn items_held_after_a_seizure() {
+fn items_held_after_a_compromise() {
     let mut account = Account::start(&material(1, 4, 3, 1000)).expect("unused");
     let mut held = vec![account.held_count()];
     let mut tell = |account: &mut Account, call: Call| {

@@ -325,10 +325,10 @@ fn refusals_15_and_21_of_restarts() {
     assert_eq!(audit(&seal_file[..95]), (22, 0));
 }
 
-/// Who seizes the device drops the items behind the first one of the last burned
+/// Who takes the device drops the items behind the first one of the last burned
 /// chunk, and puts a restart behind it with the next.
 #[test]
-fn a_seizer_drops_items_behind_b() {
+fn an_intruder_drops_items_behind_b() {
     let mut device = Device::new(1, 3, 3, 1000);
     let start = device.material.clone();
     let mut account = Account::start(&start).expect("unused");
@@ -339,20 +339,20 @@ fn a_seizer_drops_items_behind_b() {
     }
     assert_eq!(account.held_count(), 4);
     for kept in 1..5 {
-        let mut seized = device.clone();
-        assert_eq!(seized.open(&[kept], 50 * u64::from(kept)), 0);
+        let mut compromised = device.clone();
+        assert_eq!(compromised.open(&[kept], 50 * u64::from(kept)), 0);
         let number = if kept < 3 { kept } else { kept - 3 };
         if number == 0 {
             continue;
         }
-        assert_eq!(seized.restart(number), (0, 6));
-        assert_eq!(seized.close(), (0, 2));
+        assert_eq!(compromised.restart(number), (0, 6));
+        assert_eq!(compromised.close(), (0, 2));
         let presented = Presented {
-            device_store: &seized.material.store,
+            device_store: &compromised.material.store,
             auditor_store: &start.store,
-            log_memory: &seized.material.log_memory,
+            log_memory: &compromised.material.log_memory,
             log_lengths: &[kept],
-            seal_file: seized.seal_file(),
+            seal_file: compromised.seal_file(),
         };
         let answer = audit(plain_hmac, &presented);
         let (expected, outcome) = match kept {

@@ -19,7 +19,7 @@ pub(super) fn groups(script: &mut Script) {
     tags(script, &case);
     order(script, &case);
     of_calls(script);
-    seized(script);
+    stolen(script);
 }
 
 /// An item of a seal file: an entry of one byte, a filler, or a restart.
@@ -293,9 +293,9 @@ fn of_calls(script: &mut Script) {
 }
 
 /// Five entries, N = 3: item 3 is the first one of the last burned chunk. Who
-/// seizes the device opens behind fewer items, restarts and closes.
-fn seized(script: &mut Script) {
-    script.label("seized behind 5 items, N = 3: dropped up to 4, 3, 2, 1");
+/// takes the device opens behind fewer items, restarts and closes.
+fn stolen(script: &mut Script) {
+    script.label("stolen behind 5 items, N = 3: dropped up to 4, 3, 2, 1");
     script.material(Shape::of(1, 4, 3, 500));
     script.keep();
     for first in 1..6 {

@@ -1,4 +1,4 @@
-//! Devices seized behind a history, and what is then presented for them: by who
+//! Devices compromised behind a history, and what is then presented for them: by who
 //! holds the chunks that are left and the held key, and by who holds every key.
 
 use pahyndoi::model::{
@@ -42,33 +42,33 @@ pub const COUNTED: [&str; 9] = [
     DAMAGED,
 ];
 
-/// Fails where what is claimed of a seized device does not hold.
+/// Fails where what is claimed of a compromised device does not hold.
 pub fn check(random: &mut Random, tally: &mut Tally, recorded: &Recorded) {
-    let seizure = Seizure {
+    let compromise = Compromise {
         recorded,
         account: &recorded.account,
         header: recorded.device.header().expect("a store"),
     };
-    seizure.damage(random, tally);
-    if seizure.items().is_empty() {
+    compromise.damage(random, tally);
+    if compromise.items().is_empty() {
         return;
     }
-    seizure.drop_behind(random, tally);
-    seizure.drop_before(random, tally);
-    seizure.rename_restart(random, tally);
-    seizure.use_held_key(random, tally);
-    seizure.change_data(random, tally);
-    seizure.forge_restart(random, tally);
-    seizure.roll_back(random, tally);
+    compromise.drop_behind(random, tally);
+    compromise.drop_before(random, tally);
+    compromise.rename_restart(random, tally);
+    compromise.use_held_key(random, tally);
+    compromise.change_data(random, tally);
+    compromise.forge_restart(random, tally);
+    compromise.roll_back(random, tally);
 }
 
-struct Seizure<'a> {
+struct Compromise<'a> {
     recorded: &'a Recorded,
     account: &'a Account,
     header: Header,
 }
 
-impl Seizure<'_> {
+impl Compromise<'_> {
     fn items(&self) -> &[Item] {
         self.account.items()
     }
