@@ -1,3 +1,2 @@
 -- What the crate's contracts cite beside the definitions of `scheme`, `layout` and `codec`.
-pub mod Checked
 pub mod First
