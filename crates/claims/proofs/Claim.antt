@@ -6,36 +6,38 @@ use lib.ListN.{take}
 use Rattle.scheme.specs.Audit.{Said, audit}
 use Rattle.scheme.proofs.Splice.{splice-inside}
 use Rattle.scheme.proofs.Acceptance.Walk.{acceptsWith}
-use Rattle.claims.specs.Account.{Call, Fed, Account, started, accountFrom, lengthsReached, sealReached, HistoryFrom}
-use Rattle.claims.specs.Claim.{Starts, Claim, HalfWay, storeLeft, logsLeft, sealFile, sealLeft, untouched}
-use Rattle.claims.proofs.Good.{Good}
-use Rattle.claims.proofs.Invariant.{good}
-use Rattle.claims.proofs.Kept.{kept}
-use Rattle.claims.proofs.Compromise.{compromise}
+use Rattle.claims.specs.Account.{Call, Fed, Account, started, accountFrom, lengthsReached, sealReached}
+use Rattle.claims.specs.Run.{History}
+use Rattle.claims.specs.Left.{storeLeft, logsLeft, sealFile, sealLeft}
+use Rattle.claims.specs.Claim.{Starts, Kept, Claim, HalfWay, untouched}
+use Rattle.claims.proofs.Good.{Laid}
+use Rattle.claims.proofs.Histories.{good, kept}
+use Rattle.claims.proofs.Compromise.{compromise, beyond}
 use Rattle.claims.proofs.Honest.{honest, half-way as left-half-way}
 
 -- the seal file is the front of the seal memory
-file-front : (f : Fed) (a : Account) → Good f a → take (sealReached a) (sealLeft f a) ≡ sealFile a
-file-front f a g = splice-inside (f .seal) 0 (sealFile a) (omega (arith, g .sealed))
+file-front : (f : Fed) (a : Account) → Laid f a → take (sealReached a) (sealLeft f a) ≡ sealFile a
+file-front f a laid = splice-inside (f .seal) 0 (sealFile a) (omega (arith, laid .sealed))
 
 -- what the audit says of untouched material, from what it says of what the account leaves
-untouched-is : (f : Fed) → Starts f → (calls : List Call) → HistoryFrom f (started f) calls → (said : Said)
+pub untouched-is : (f : Fed) (calls : List Call) → Kept f calls → Laid f (accountFrom f (started f) calls) → (said : Said)
     → (let a = accountFrom f (started f) calls in audit (storeLeft f a) (f .store) (logsLeft f a) (lengthsReached a) (sealFile a) ≡ said)
     → untouched f calls ≡ said
-untouched-is f starts calls history said e =
-    let k = kept f starts calls history in
-    rw (k .store, k .logs, k .seal, file-front f (accountFrom f (started f) calls) (good f starts calls history)) e
+untouched-is f calls k laid said e = rw (k .store, k .logs, k .seal, file-front f (accountFrom f (started f) calls) laid) e
 
-pub claim : (f : Fed) → Starts f → (calls : List Call) → HistoryFrom f (started f) calls → Claim f calls
+pub claim : (f : Fed) → Starts f → (calls : List Call) → History f calls → Claim f calls
 claim f starts calls history =
     let a = accountFrom f (started f) calls in
     let g = good f starts calls history in
+    let k = kept f starts calls history in
     record {
-      kept = kept f starts calls history;
-      compromise = λ device logs lengths seal accepted. compromise f a g device logs lengths seal (omega arith);
-      honest = λ closed. untouched-is f starts calls history _ (honest f a starts g closed) ∙ ap acceptsWith (omega arith);
+      kept = k;
+      compromise = compromise f starts a g;
+      beyond = beyond f starts a g;
+      honest = λ closed. untouched-is f calls k (g .laid) _ (honest f a starts g closed) ∙ ap acceptsWith (omega arith);
     }
 
-pub half-way : (f : Fed) → Starts f → (calls : List Call) → HistoryFrom f (started f) calls → HalfWay f calls
+pub half-way : (f : Fed) → Starts f → (calls : List Call) → History f calls → HalfWay f calls
 half-way f starts calls history some =
-    untouched-is f starts calls history _ (left-half-way f (accountFrom f (started f) calls) starts (good f starts calls history) some)
+    let g = good f starts calls history in
+    untouched-is f calls (kept f starts calls history) (g .laid) _ (left-half-way f (accountFrom f (started f) calls) starts g some)

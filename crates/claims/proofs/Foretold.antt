@@ -12,23 +12,22 @@ use Rattle.planning.specs.declared.Ratchet.{Ratchet}
 use Rattle.planning.specs.declared.Ratchet.the-variants.{Least, NoneLasts, Refused}
 use Rattle.planning.proofs.Quotients.{at-most}
 use Rattle.planning.proofs.Sums.{antitone}
-use Rattle.claims.specs.Account.{Call, Fed, Account, started, accountStep, accountFrom, answersFrom, NoneHalfUsed, Allowed, HistoryFrom}
-use Rattle.claims.specs.Run.{Device, runFrom, runAnswers}
+use Rattle.claims.specs.Account.{Call, Fed, Account, started, accountStep, accountFrom, answersFrom, NoneHalfUsed, AllowedBy, HistoryFrom}
+use Rattle.claims.specs.Run.{Device, runAnswers, History}
 use Rattle.claims.specs.Claim.{Starts}
 use Rattle.claims.specs.Plan.{Entry, interval, followed, countsOf, chunksLeft, deviceAnswers, Lasting, Spent, Foretold}
-use Rattle.claims.proofs.Invariant.{started-good, good}
-use Rattle.claims.proofs.Kept.{device-started, run-answers, run-leaves}
+use Rattle.claims.proofs.Histories.{good, device-left, account-answers}
 use Rattle.claims.proofs.Plan.{Ready, append-ready, interval-ready, burned-is, first-number, follows}
 use Rattle.claims.proofs.Steps.Begun.{Begun, begun}
 
 -- appends and closes go on with any history that left no chunk waiting
-pub history-on : (f : Fed) (a : Account) (first later : List Call) → HistoryFrom f a first → HistoryFrom f (accountFrom f a first) later → HistoryFrom f a (first ++ later)
+pub account-history-on : (f : Fed) (a : Account) (first later : List Call) → HistoryFrom f a first → HistoryFrom f (accountFrom f a first) later → HistoryFrom f a (first ++ later)
 unfolding HistoryFrom accountFrom
-history-on f a [] later before behind = behind
-history-on f a (call ∷ first) later before behind = (before .0, history-on f (accountStep f a call) first later (before .1) behind)
+account-history-on f a [] later before behind = behind
+account-history-on f a (call ∷ first) later before behind = (before .0, account-history-on f (accountStep f a call) first later (before .1) behind)
 
 interval-history : (f : Fed) (begun : Begun f) (entries : List Entry) (a : Account) → Ready f begun a → HistoryFrom f a (interval entries)
-unfolding interval HistoryFrom Allowed
+unfolding interval HistoryFrom AllowedBy
 interval-history f begun [] a ready = (tt, tt)
 interval-history f begun (e ∷ entries) a ready = ((λ none. ready .free), interval-history f begun entries _ (append-ready f begun a ready (e .phase) (e .bytes)))
 
@@ -36,19 +35,18 @@ plan-history : (f : Fed) (begun : Begun f) (plan : List (List Entry)) (a : Accou
 unfolding followed HistoryFrom
 plan-history f begun [] a ready = tt
 plan-history f begun (entries ∷ plan) a ready =
-    history-on f a (interval entries) (followed plan) (interval-history f begun entries a ready) (plan-history f begun plan _ (interval-ready f begun entries a ready))
+    account-history-on f a (interval entries) (followed plan) (interval-history f begun entries a ready) (plan-history f begun plan _ (interval-ready f begun entries a ready))
 
-pub device-answers : (f : Fed) → Starts f → (calls : List Call) → HistoryFrom f (started f) calls → NoneHalfUsed (accountFrom f (started f) calls)
+pub device-answers : (f : Fed) → Starts f → (calls : List Call) → History f calls → NoneHalfUsed (accountFrom f (started f) calls)
     → (plan : List (List Entry)) → deviceAnswers f calls plan ≡ answersFrom f (accountFrom f (started f) calls) (followed plan)
 device-answers f starts calls history none plan =
     let start = begun f starts in
     let a = accountFrom f (started f) calls in
-    let leaves = ap (λ (d : Device). runFrom d calls) (device-started f start) ∙ run-leaves f start calls (started f) (started-good f start) history in
-    ap (λ (d : Device). runAnswers d (followed plan)) leaves
-    ∙ run-answers f start (followed plan) a (good f starts calls history)
-    (plan-history f start plan a (record { good = good f starts calls history; free = none .1 }))
+    let g = good f starts calls history in
+    ap (λ (d : Device). runAnswers d (followed plan)) (device-left f starts calls history)
+    ∙ account-answers f start a (g .laid) (followed plan) (plan-history f start plan a (record { good = g; free = none .1 }))
 
-module _ (f : Fed) (starts : Starts f) (calls : List Call) (history : HistoryFrom f (started f) calls) where
+module _ (f : Fed) (starts : Starts f) (calls : List Call) (history : History f calls) where
   -- all chunks are left while nothing is sealed
   pub all-left : accountFrom f (started f) calls .items ≡ [] → chunksLeft f (accountFrom f (started f) calls) ≡ chunkCount (f .store)
   all-left none =

@@ -1,4 +1,5 @@
--- What holds of every account: the invariant that the parts of the claim share.
+-- What holds of every account (`Laid`), and of one whose items each stand where a key was due, as after a history (`Good`): the invariants that the
+-- parts of the claim share.
 use mathlib.Core.Path.{_≡_}
 use mathlib.Core.Bool.{true, cond}
 use mathlib.Core.List.{List, []}
@@ -12,11 +13,8 @@ use Rattle.scheme.specs.Keys.{keyOf, tagOf}
 use Rattle.scheme.specs.Areas.{areaOf, areaEnd, areasIn, Runs}
 use Rattle.scheme.specs.Acceptable.{ItemOf, Stands}
 use Rattle.claims.specs.Account.{Fed, Account, logOf, carried, sealReached}
-use Rattle.claims.specs.Claim.{placed}
-
--- item k
-abbrev pub itemOf : Account → ℕ → List ℕ
-itemOf a k = getD (a .items) k []
+use Rattle.claims.specs.Left.{placed}
+use Rattle.claims.specs.Claim.{ownItem}
 
 -- of logs, one a phase: the log of phase p, and the log memory with each in its place
 abbrev pub logIn : List (List ℕ) → ℕ → List ℕ
@@ -38,16 +36,26 @@ pub record InLog (f : Fed) (logs : List (List ℕ)) (it : List ℕ) : Type 0 whe
   pub few : dataLength it ≤ dataLimit (f .store)
   pub inside : areaEnd (areaOf it) ≤ length (logIn logs (phaseOf it))
 
--- an item behind others is whole, stands where a key is due, and has the tag of its message under its key
-pub record ItemAt (f : Fed) (logs : List (List ℕ)) (taken : List (List ℕ)) (it : List ℕ) : Type 0 where
+-- an item is whole, and has the tag of its message under its key
+pub record ItemAt (f : Fed) (logs : List (List ℕ)) (it : List ℕ) : Type 0 where
   pub form : ItemOf (f .store) it
   pub ranges : kindOf it ≡ entryKind → InLog f logs it
-  pub place : Stands (dueBehind (ratchet (f .store)) taken) it
   pub tag : itemTag it ≡ tagOf (f .store) (keyOf (f .store) it) (messageOf (f .store) (memoryWith f logs) it)
 
 -- how many chunks are burned
 abbrev pub front : Account → ℕ
 front a = cond (eqb (a .r .0) 0) (a .c .0) (suc (a .c .0))
+
+-- whether or not each item stands where a key was due
+pub record Laid (f : Fed) (a : Account) : Type 0 where
+  pub offset : a .r .0 < ratchet (f .store)
+  pub spent : front a ≤ chunkCount (f .store)
+  pub sealed : sealReached a ≤ length (f .seal)
+  pub logs : Logs f (a .logs)
+  pub items : (k : ℕ) → k < length (a .items) → ItemAt f (a .logs) (ownItem a k)
+  pub burned : (x : ℕ) → carried a x ≡ ltb x (front a)
+  pub runs : (p : ℕ) → 1 ≤ p → p ≤ phases (f .store) → Runs 0 (areasIn p (a .items)) (length (logOf a p))
+  pub standing : a .lost ≡ true → 0 < length (a .items)
 
 -- the place of the counters; what is due behind the items is there, or in the chunk before where that waits for its restart
 abbrev pub counters : Account → KeyPlace
@@ -62,14 +70,9 @@ pub record Waits (f : Fed) (a : Account) : Type 0 where
   pub few : a .waiting < ratchet (f .store)
   pub later : 1 ≤ a .c .0
 
+-- and where each does
 pub record Good (f : Fed) (a : Account) : Type 0 where
-  pub offset : a .r .0 < ratchet (f .store)
+  pub laid : Laid f a
   pub due : dueBehind (ratchet (f .store)) (a .items) ≡ placeDue a
   pub waits : 0 < a .waiting → Waits f a
-  pub spent : front a ≤ chunkCount (f .store)
-  pub sealed : sealReached a ≤ length (f .seal)
-  pub logs : Logs f (a .logs)
-  pub items : (k : ℕ) → k < length (a .items) → ItemAt f (a .logs) (take k (a .items)) (itemOf a k)
-  pub burned : (x : ℕ) → carried a x ≡ ltb x (front a)
-  pub runs : (p : ℕ) → 1 ≤ p → p ≤ phases (f .store) → Runs 0 (areasIn p (a .items)) (length (logOf a p))
-  pub standing : a .lost ≡ true → 0 < length (a .items)
+  pub stands : (k : ℕ) → k < length (a .items) → Stands (dueBehind (ratchet (f .store)) (take k (a .items))) (ownItem a k)

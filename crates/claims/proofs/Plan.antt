@@ -19,11 +19,13 @@ use Rattle.scheme.proofs.Places.{offset-at}
 use Rattle.scheme.proofs.Rules.{both-true, refused-holds}
 use Rattle.planning.specs.Chunks.{roundedUp, chunksFor}
 use Rattle.planning.proofs.Quotients.{above-none, rises, shared, apart, exactly, whole}
-use Rattle.claims.specs.Account.{Call, Open, Append, Close, Restart, Cut, Answer, Fed, Account, started, stepOn, entryDue, fillerDue, withItem, withData, accountAppend, accountAppendRules, accountCloseRules, accountRefusal, accountDone, accountRefused, accountStep, accountAnswer, accountFrom, answersFrom, NoneHalfUsed, Allowed, HistoryFrom}
+use Rattle.claims.specs.Account.{Call, Open, Append, Close, Restart, Cut, Answer, Fed, Account, started, stepOn, entryDue, fillerDue, withItem, withData, accountAppend, accountAppendRules, accountCloseRules, accountRefusal, accountDone, accountRefused, accountStep, accountAnswer, accountFrom, answersFrom, NoneHalfUsed, AllowedBy}
+use Rattle.claims.specs.Run.{History}
 use Rattle.claims.specs.Claim.{Starts}
 use Rattle.claims.specs.Plan.{Entry, interval, followed, countsOf, burnedBelow, chunksBurned, firstRefusal, NoneBy, rulesOf, without, OnlyBy, Burns, Follows}
 use Rattle.claims.proofs.Good.{Good, front}
-use Rattle.claims.proofs.Invariant.{step-good, good}
+use Rattle.claims.proofs.Histories.{good}
+use Rattle.claims.proofs.Invariant.{step-good}
 use Rattle.claims.proofs.Steps.Agrees.{step-done, step-refused}
 use Rattle.claims.proofs.Steps.Begun.{Begun, begun}
 use Rattle.claims.proofs.Steps.Fillers.{left, filled, fill, fill-free, after-close}
@@ -127,22 +129,22 @@ module _ (f : Fed) (begun : Begun f) where
         exactly (number a) (ratchet (f .store)) (front a) some-keys (rw ends (omega arith)) (rw ends (omega arith)))
         (λ some.
         let ends = front-half a (omega arith) in
-        exactly (number a) (ratchet (f .store)) (front a) some-keys (rw (ends, suc-mul) (omega (arith, good .offset))) (rw (ends, suc-mul) (omega arith)))
+        exactly (number a) (ratchet (f .store)) (front a) some-keys (rw (ends, suc-mul) (omega (arith, good .laid .offset))) (rw (ends, suc-mul) (omega arith)))
 
     taken-most : taken (number a) ≤ chunkCount (f .store)
-    taken-most = omega (arith, taken-front, good .spent)
+    taken-most = omega (arith, taken-front, good .laid .spent)
 
     pub burned-is : chunksBurned f a ≡ taken (number a)
     unfolding burnedBelow
     burned-is =
-        fold-front f a good (begun .store) (burnedBelow a) (λ (n : ℕ). n) refl (λ n one same. rw (one, same)) (λ n none. rw none)
+        fold-front f a (good .laid) (begun .store) (burnedBelow a) (λ (n : ℕ). n) refl (λ n one same. rw (one, same)) (λ n none. rw none)
         ∙ sym taken-front
 
     -- a chunk is half used unless the keys are those of whole chunks
     whole-chunks : (k : ℕ) → number a ≡ k * ratchet (f .store) → a .r .0 ≡ 0
     whole-chunks k e =
         ap (λ (r : RatchetOffset). r .0)
-        (sym (offset-at (ratchet (f .store)) (a .c .0) (a .r .0) (good .offset))
+        (sym (offset-at (ratchet (f .store)) (a .c .0) (a .r .0) (good .laid .offset))
         ∙ ap (offsetOf (ratchet (f .store))) (omega (arith, e))
         ∙ offset-at (ratchet (f .store)) k 0 some-keys)
 
@@ -151,13 +153,13 @@ module _ (f : Fed) (begun : Begun f) where
     up-to-whole =
         by-cases (ℕ-discrete (a .r .0) 0)
         (λ none. rw (eq-eqb (a .r .0) 0 none) (omega arith))
-        (λ some. rw (ne-eqb (a .r .0) 0 some, suc-mul) (omega (arith, good .offset)))
+        (λ some. rw (ne-eqb (a .r .0) 0 some, suc-mul) (omega (arith, good .laid .offset)))
 
   -- none are passed while there is no item
   pub first-number : (a : Account) → Good f a → a .items ≡ [] → number a ≡ 0
   first-number a good none =
       let empty = ap length none in
-      rw (no-chunk f begun a good empty, no-offset f begun a good empty) (omega arith)
+      rw (no-chunk f begun a (good .laid) empty, no-offset f begun a (good .laid) empty) (omega arith)
 
   -- ---- one call
 
@@ -194,7 +196,7 @@ module _ (f : Fed) (begun : Begun f) where
   close-number : (a : Account) → Good f a → accountRefusal f a Close ≡ 0 → number (accountStep f a Close) ≡ taken (number a) * ratchet (f .store)
   unfolding accountDone
   close-number a good e =
-      ap number (step-done f a Close e ∙ after-close f a (good .offset))
+      ap number (step-done f a Close e ∙ after-close f a (good .laid .offset))
       ∙ fill-number (left f a) a
       ∙ up-to-whole a good
       ∙ ap (λ (k : ℕ). k * ratchet (f .store)) (sym (taken-front a good))
@@ -203,7 +205,7 @@ module _ (f : Fed) (begun : Begun f) where
   unfolding accountDone accountRefused
   close-free a good free =
       by-cases (ℕ-discrete (accountRefusal f a Close) 0)
-      (λ e. rw (step-done f a Close e ∙ after-close f a (good .offset)) (fill-free f (left f a) a free))
+      (λ e. rw (step-done f a Close e ∙ after-close f a (good .laid .offset)) (fill-free f (left f a) a free))
       (λ e. rw (step-refused f a Close (ne-eqb (accountRefusal f a Close) 0 e)) free)
 
   -- neither burns a chunk where it is refused, and a close none at all
@@ -239,12 +241,12 @@ module _ (f : Fed) (begun : Begun f) where
     pub free : a .waiting ≡ 0
 
   pub append-ready : (a : Account) → Ready a → (phase : ℕ) (bytes : List ℕ) → Ready (accountStep f a (Append phase bytes))
-  unfolding Allowed
+  unfolding AllowedBy
   append-ready a ready phase bytes =
       record { good = step-good f begun a (Append phase bytes) (ready .good) (λ e. ready .free); free = append-free a phase bytes (ready .free) }
 
   close-ready : (a : Account) → Ready a → Ready (accountStep f a Close)
-  unfolding Allowed
+  unfolding AllowedBy
   close-ready a ready = record { good = step-good f begun a Close (ready .good) tt; free = close-free a (ready .good) (ready .free) }
 
   pub interval-ready : (entries : List Entry) (a : Account) → Ready a → Ready (accountFrom f a (interval entries))
@@ -373,7 +375,7 @@ module _ (f : Fed) (begun : Begun f) where
 
 -- ---- after a history
 
-module _ (f : Fed) (starts : Starts f) (calls : List Call) (history : HistoryFrom f (started f) calls) (none : NoneHalfUsed (accountFrom f (started f) calls)) where
+module _ (f : Fed) (starts : Starts f) (calls : List Call) (history : History f calls) (none : NoneHalfUsed (accountFrom f (started f) calls)) where
   pub interval-burns : (entries : List Entry) → firstRefusal (answersFrom f (accountFrom f (started f) calls) (interval entries)) ≡ 0
       → Burns f (accountFrom f (started f) calls) entries
   interval-burns = interval-does f (begun f starts) (accountFrom f (started f) calls) (good f starts calls history) none

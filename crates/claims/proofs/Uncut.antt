@@ -17,10 +17,11 @@ use Rattle.scheme.specs.Due.{dueBehind}
 use Rattle.scheme.specs.Acceptable.{Stands, NoRestart}
 use Rattle.scheme.proofs.Tests.{either}
 use Rattle.scheme.proofs.Due.{rank, due-number, in-order}
-use Rattle.claims.specs.Account.{Call, Open, Append, Close, Restart, Cut, Fed, Account, started, entryDue, fillerDue, withItem, withData, accountAppend, accountClose, accountRestart, accountRefusal, accountDone, accountRefused, accountStep, accountFrom, Allowed, HistoryFrom}
+use Rattle.claims.specs.Account.{Call, Open, Append, Close, Restart, Cut, Fed, Account, started, entryDue, fillerDue, withItem, withData, accountAppend, accountClose, accountRestart, accountRefusal, accountDone, accountRefused, accountStep, accountFrom, AllowedBy, HistoryFrom}
+use Rattle.claims.specs.Run.{History}
 use Rattle.claims.specs.Claim.{Starts}
 use Rattle.claims.specs.Uncut.{Uncut, Straight}
-use Rattle.claims.proofs.Invariant.{good}
+use Rattle.claims.proofs.Histories.{by-account, good}
 use Rattle.claims.proofs.Steps.Adding.{due-counters}
 use Rattle.claims.proofs.Steps.Begun.{begun}
 use Rattle.claims.proofs.Steps.Stepping.{step-items, step-waiting}
@@ -57,7 +58,7 @@ module _ (f : Fed) where
       either Flat (ltb 0 (a .r .0)) (close-flat n _ (flat-on a _ (fillerDue f a) flat (step-items f b) (step-waiting f b) (λ kind. omega (arith, kind)))) flat
 
   calls-flat : (calls : List Call) (a : Account) → Uncut calls → HistoryFrom f a calls → Flat a → Flat (accountFrom f a calls)
-  unfolding accountFrom accountStep accountDone accountRefused Uncut HistoryFrom Allowed
+  unfolding accountFrom accountStep accountDone accountRefused Uncut HistoryFrom AllowedBy
   calls-flat [] a uncut history flat = flat
   calls-flat (Open lengths sealLength ∷ calls) a uncut history flat =
       calls-flat calls _ uncut (history .1) (either Flat (eqb (accountRefusal f a (Open lengths sealLength)) 0)
@@ -73,15 +74,15 @@ module _ (f : Fed) where
       go false e = flat
   calls-flat (Cut ∷ calls) a uncut history flat = absurd uncut
 
-pub straight : (f : Fed) → Starts f → (calls : List Call) → HistoryFrom f (started f) calls → Uncut calls → Straight f calls
+pub straight : (f : Fed) → Starts f → (calls : List Call) → History f calls → Uncut calls → Straight f calls
 unfolding started
 straight f starts calls history uncut =
     let a = accountFrom f (started f) calls in
     let g = good f starts calls history in
-    let flat = calls-flat f calls (started f) uncut history (record { plain = λ k h. absurd (omega arith); free = refl }) in
+    let flat = calls-flat f calls (started f) uncut (by-account f starts calls .0 history) (record { plain = λ k h. absurd (omega arith); free = refl }) in
     let n = ratchet (f .store) in
     let some = begun f starts .store .ratchetLow in
-    let stand : (k : ℕ) → k < length (a .items) → Stands (dueBehind n (take k (a .items))) (getD (a .items) k []) = λ k h. g .items k h .place in
+    let stand : (k : ℕ) → k < length (a .items) → Stands (dueBehind n (take k (a .items))) (getD (a .items) k []) = g .stands in
     let all = due-number n some (a .items) (length (a .items)) (le-refl _) stand (flat .plain) (length (a .items)) (le-refl _) in
     record {
       order = in-order n some (a .items) stand (flat .plain);

@@ -243,16 +243,19 @@ unfoldable pub answersFrom : Fed → Account → List Call → List Answer
 answersFrom f a [] = []
 answersFrom f a (call ∷ calls) = accountAnswer f a call ∷ answersFrom f (accountStep f a call) calls
 
--- what a history allows (FORMAT.md, 10, history): that an open does its work while no chunk is half used, or a cut left one so, with the lengths
--- reached; that while a cut chunk waits no call writes an item but a restart with its number, and no other restart does at all. A close writes none
--- then, r being 0
-unfoldable pub Allowed : Fed → Account → Call → Type 0
-Allowed f a (Open lengths sealLength) =
-    accountRefusal f a (Open lengths sealLength) ≡ 0 → (a .r .0 ≡ 0) × (lengths ≡ lengthsReached a) × (sealLength ≡ sealReached a)
-Allowed f a (Append phase bytes) = accountRefusal f a (Append phase bytes) ≡ 0 → a .waiting ≡ 0
-Allowed f a Close = Unit {0}
-Allowed f a (Restart number) = accountRefusal f a (Restart number) ≡ 0 → (0 < a .waiting) × (number ≡ a .waiting)
-Allowed f a Cut = Unit {0}
+-- what a history allows of a call with this refusal, 0 with none, where the account stands (FORMAT.md, 10, history): a refused call, a cut and a close
+-- come anywhere; an open does its work while no chunk is half used, or where a cut left one so, with the lengths reached; while a cut chunk waits no
+-- call writes an item but a restart with its number, and no other restart does at all. A close writes none then, r being 0
+unfoldable pub AllowedBy : ℕ → Account → Call → Type 0
+AllowedBy refusal a (Open lengths sealLength) = refusal ≡ 0 → (a .r .0 ≡ 0) × (lengths ≡ lengthsReached a) × (sealLength ≡ sealReached a)
+AllowedBy refusal a (Append phase bytes) = refusal ≡ 0 → a .waiting ≡ 0
+AllowedBy refusal a Close = Unit {0}
+AllowedBy refusal a (Restart number) = refusal ≡ 0 → (0 < a .waiting) × (number ≡ a .waiting)
+AllowedBy refusal a Cut = Unit {0}
+
+-- by the account's own refusals; a history goes by those of the calls (`History`), and is one by the other where it is by the one (`ByAccount`)
+abbrev pub Allowed : Fed → Account → Call → Type 0
+Allowed f a call = AllowedBy (accountRefusal f a call) a call
 
 unfoldable pub HistoryFrom : Fed → Account → List Call → Type 0
 HistoryFrom f a [] = Unit {0}

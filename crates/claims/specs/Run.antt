@@ -4,7 +4,7 @@ use Prim.Native.Nat.{ℕ}
 use Rattle.scheme.specs.State.{zeroState}
 use Rattle.scheme.specs.Sealer.{Effect, opens, appends, closes, restarts}
 use Rattle.scheme.specs.declared.State.{State}
-use Rattle.claims.specs.Account.{Call, Open, Append, Close, Restart, Cut, Answer, Fed}
+use Rattle.claims.specs.Account.{Call, Open, Append, Close, Restart, Cut, Answer, Fed, Account, started, AllowedBy, accountStep}
 
 -- state, store and memories between two calls
 pub record Device : Type 0 where
@@ -42,3 +42,11 @@ runFrom d (call ∷ calls) = runFrom (deviceAfter (effectOf d call)) calls
 unfoldable pub runAnswers : Device → List Call → List Answer
 runAnswers d [] = []
 runAnswers d (call ∷ calls) = answerOf (effectOf d call) ∷ runAnswers (deviceAfter (effectOf d call)) calls
+
+-- a history (FORMAT.md, 10): every call, with the refusal that it answers itself, is allowed where the account of the calls before it stands
+unfoldable pub RunHistoryFrom : Fed → Device → Account → List Call → Type 0
+RunHistoryFrom f d a [] = Unit {0}
+RunHistoryFrom f d a (call ∷ calls) = AllowedBy (effectOf d call .refusal) a call × RunHistoryFrom f (deviceAfter (effectOf d call)) (accountStep f a call) calls
+
+abbrev pub History : Fed → List Call → Type 0
+History f calls = RunHistoryFrom f (deviceStarted f) (started f) calls

@@ -10,7 +10,7 @@ use Rattle.scheme.specs.Audit.{audit}
 use Rattle.scheme.specs.Acceptable.{NoRestart}
 use Rattle.scheme.specs.Standby.{ButIds, OneTag}
 use Rattle.claims.specs.Account.{Call, Fed, started, accountFrom}
-use Rattle.claims.specs.Claim.{logsLeft}
+use Rattle.claims.specs.Left.{logsLeft}
 
 abbrev pub Standby : Fed → List Call → Type 0
 Standby f calls =

@@ -9,8 +9,8 @@ use Rattle.scheme.specs.Sealer.{Effect, refused}
 use Rattle.scheme.specs.declared.State.{State}
 use Rattle.claims.specs.Account.{Call, Fed, Account, accountRefusal, accountCount, accountDone, accountRefused, accountStep, accountAnswer}
 use Rattle.claims.specs.Run.{Device, deviceAfter, answerOf}
-use Rattle.claims.specs.Claim.{storeLeft, logsLeft, sealLeft}
-use Rattle.claims.proofs.Steps.Device.{stateOf, deviceOf}
+use Rattle.claims.specs.Left.{storeLeft, logsLeft, sealLeft, stateLeft}
+use Rattle.claims.proofs.Steps.Device.{deviceOf}
 
 pub record Agrees (f : Fed) (a : Account) (call : Call) (e : Effect) : Type 0 where
   pub answer : answerOf e ≡ accountAnswer f a call
@@ -38,16 +38,24 @@ module _ (f : Fed) (a : Account) (call : Call) where
   unfolding accountStep
   step-refused e = rw e
 
+  pub step-either : (P : Account → Type 0) → (accountRefusal f a call ≡ 0 → P (accountDone f a call)) → P (accountRefused a call) → P (accountStep f a call)
+  unfolding accountStep
+  step-either P done left = go (eqb (accountRefusal f a call) 0) refl
+    where
+      go : (t : Bool) → eqb (accountRefusal f a call) 0 ≡ t → P (cond t (accountDone f a call) (accountRefused a call))
+      go true e = done (eqb-true (accountRefusal f a call) 0 e)
+      go false e = left
+
   -- append and close: where refused, all is left as it came
   pub agree : (n : ℕ) (done : Effect) → n ≡ accountRefusal f a call
       → (accountRefusal f a call ≡ 0 → answerOf done ≡ record { refusal = 0; count = accountCount f a call })
       → (accountRefusal f a call ≡ 0 → deviceAfter done ≡ deviceOf f (accountDone f a call))
       → accountRefused a call ≡ a
-      → Agrees f a call (cond (eqb n 0) done (refused n (stateOf f a) (storeLeft f a) (logsLeft f a) (sealLeft f a)))
+      → Agrees f a call (cond (eqb n 0) done (refused n (stateLeft f a) (storeLeft f a) (logsLeft f a) (sealLeft f a)))
   agree n done same answers leaves kept = rw same (go (eqb (accountRefusal f a call) 0) refl)
     where
       go : (t : Bool) → eqb (accountRefusal f a call) 0 ≡ t
-          → Agrees f a call (cond t done (refused (accountRefusal f a call) (stateOf f a) (storeLeft f a) (logsLeft f a) (sealLeft f a)))
+          → Agrees f a call (cond t done (refused (accountRefusal f a call) (stateLeft f a) (storeLeft f a) (logsLeft f a) (sealLeft f a)))
       go true e =
           let none = eqb-true (accountRefusal f a call) 0 e in
           record {

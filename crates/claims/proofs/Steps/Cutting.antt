@@ -12,29 +12,29 @@ use Rattle.scheme.specs.State.{zeroState}
 use Rattle.scheme.proofs.Burning.{zeroed}
 use Rattle.claims.specs.Account.{Cut, Fed, Account, losing, afterCut, accountRefusal, accountCount, accountDone, accountStep, accountAnswer}
 use Rattle.claims.specs.Run.{deviceAfter, afterLoss}
-use Rattle.claims.specs.Claim.{storeLeft}
-use Rattle.claims.proofs.Good.{Good}
+use Rattle.claims.specs.Left.{storeLeft, stateLeft}
+use Rattle.claims.proofs.Good.{Laid}
 use Rattle.claims.proofs.Steps.Agrees.{Agrees, same-device}
 use Rattle.claims.proofs.Steps.Begun.{Begun}
-use Rattle.claims.proofs.Steps.Device.{stateOf, deviceOf}
-use Rattle.claims.proofs.Invariant.{cutHalf, cut-good, losing-good}
+use Rattle.claims.proofs.Steps.Device.{deviceOf}
+use Rattle.claims.proofs.Invariant.{cutHalf, cut-laid, losing-laid}
 use Rattle.claims.proofs.Steps.Opening.{no-offset, zero-held, store-same}
 use Rattle.claims.proofs.Steps.StoreLeft.{front-half, store-left}
 
-module _ (f : Fed) (begun : Begun f) (a : Account) (good : Good f a) where
+module _ (f : Fed) (begun : Begun f) (a : Account) (laid : Laid f a) where
   -- a chunk that is half used has an item
   half-some : 0 < a .r .0 → 0 < length (a .items)
   half-some inner =
-      by-cases (decLt 0 (length (a .items))) (λ some. some) (λ none. absurd (omega (arith, inner, no-offset f begun a good (omega arith))))
+      by-cases (decLt 0 (length (a .items))) (λ some. some) (λ none. absurd (omega (arith, inner, no-offset f begun a laid (omega arith))))
 
-  half-state : 0 < a .r .0 → zeroState ≡ stateOf f (cutHalf a)
+  half-state : 0 < a .r .0 → zeroState ≡ stateLeft f (cutHalf a)
   half-state inner = rw (lt-ltb 0 (length (a .items)) (half-some inner), or-true (a .lost))
 
   half-store : 0 < a .r .0 → storeLeft f a ≡ storeLeft f (cutHalf a)
   half-store inner =
-      store-left f a good (begun .store)
+      store-left f a laid (begun .store)
       ∙ ap (zeroed (f .store)) (front-half a inner)
-      ∙ sym (store-left f (cutHalf a) (cut-good f begun a good inner) (begun .store))
+      ∙ sym (store-left f (cutHalf a) (cut-laid f begun a laid inner) (begun .store))
 
   pub cut-agrees : Agrees f a Cut (afterLoss (deviceOf f a))
   unfolding accountAnswer accountStep accountRefusal accountCount accountDone afterCut
@@ -42,4 +42,4 @@ module _ (f : Fed) (begun : Begun f) (a : Account) (good : Good f a) where
     where
       go : (t : Bool) → ltb 0 (a .r .0) ≡ t → deviceAfter (afterLoss (deviceOf f a)) ≡ deviceOf f (cond t (cutHalf a) (losing a))
       go true e = let inner = ltb-true 0 (a .r .0) e in same-device (half-state inner) (half-store inner) refl refl
-      go false e = same-device (zero-held f begun a good) (store-same f begun a good _ (losing-good f begun a good)) refl refl
+      go false e = same-device (zero-held f begun a laid) (store-same f begun a laid _ (losing-laid f begun a laid)) refl refl

@@ -5,45 +5,29 @@ use mathlib.Core.List.{List, [], _∷_, _++_, append-nil}
 use Prim.Native.Nat.{ℕ, zero, suc, _+_, _-_, _≤_, _<_}
 use native.Mathlib.Nat.{zero-add}
 use native.Mathlib.Omega.{arith}
-use lib.Dec.{eqb}
 use lib.ListN.{length, getD, set, replicate}
 use Rattle.scheme.specs.Bytes.{splice, joined}
 use Rattle.scheme.specs.Store.{header, chunkCount, badStore, badLogs}
 use Rattle.scheme.specs.Acceptable.{KeyStore}
 use Rattle.scheme.specs.State.{zeroState}
-use Rattle.scheme.specs.declared.State.{State}
 use Rattle.scheme.proofs.Splice.{splice-length, splice-twice}
 use Rattle.scheme.proofs.Areas.{joined-last}
 use Rattle.scheme.proofs.Headers.{SameFields, same-fields, same-bad-logs}
 use Rattle.scheme.proofs.Burning.{zeroed-header, zeroed-store}
 use Rattle.scheme.proofs.Acceptance.Stores.{key-store}
-use Rattle.claims.specs.Account.{Fed, Account, lengthsOf, sealReached, dueKey}
+use Rattle.claims.specs.Account.{Fed, Account, lengthsOf, sealReached}
 use Rattle.claims.specs.Run.{Device}
-use Rattle.claims.specs.Claim.{storeLeft, logsLeft, sealLeft}
-use Rattle.claims.proofs.Good.{Good, front}
+use Rattle.claims.specs.Left.{held, stateLeft, storeLeft, logsLeft, sealLeft}
+use Rattle.claims.proofs.Good.{front, Laid}
 use Rattle.claims.proofs.Steps.Begun.{Begun}
 use Rattle.claims.proofs.Steps.LogsLeft.{logs-room}
 use Rattle.claims.proofs.Steps.Placed.{placed-length}
 use Rattle.claims.proofs.Steps.StoreLeft.{store-left}
 
--- eight lengths, zero beyond the phases
-abbrev pub eight : List (List ℕ) → List ℕ
-eight logs = lengthsOf logs ++ replicate (8 - length logs) 0
-
--- a state that stands at an account's place, with some held key; the held key is the due one, and zeros at offset 0
-abbrev pub holding : Account → List ℕ → State
-holding a key = record { chunk = a .c; offset = a .r; key = key; lengths = eight (a .logs); «seal_length» = sealReached a }
-
-abbrev pub held : Fed → Account → State
-held f a = holding a (cond (eqb (a .r .0) 0) (replicate 32 0) (dueKey f a))
-
-abbrev pub stateOf : Fed → Account → State
-stateOf f a = cond (a .lost) zeroState (held f a)
-
 abbrev pub deviceOf : Fed → Account → Device
-deviceOf f a = record { state = stateOf f a; store = storeLeft f a; logs = logsLeft f a; seal = sealLeft f a }
+deviceOf f a = record { state = stateLeft f a; store = storeLeft f a; logs = logsLeft f a; seal = sealLeft f a }
 
-pub state-held : (f : Fed) (a : Account) → a .lost ≡ false → stateOf f a ≡ held f a
+pub state-held : (f : Fed) (a : Account) → a .lost ≡ false → stateLeft f a ≡ held f a
 state-held f a kept = ap (λ (t : Bool). cond t zeroState (held f a)) kept
 
 -- ---- the lengths
@@ -78,24 +62,24 @@ lengths-none (log ∷ logs) none = ap₂ (λ (n : ℕ) (ns : List ℕ). n ∷ ns
 
 -- ---- what is left
 
-module _ (f : Fed) (begun : Begun f) (a : Account) (good : Good f a) where
+module _ (f : Fed) (begun : Begun f) (a : Account) (laid : Laid f a) where
   most : front a ≤ chunkCount (f .store)
-  most = good .spent
+  most = laid .spent
 
   pub left-header : header (storeLeft f a) ≡ header (f .store)
-  left-header = ap header (store-left f a good (begun .store)) ∙ zeroed-header (f .store) (begun .store) (front a) most
+  left-header = ap header (store-left f a laid (begun .store)) ∙ zeroed-header (f .store) (begun .store) (front a) most
 
   pub left-fields : SameFields (storeLeft f a) (f .store)
   left-fields = same-fields (storeLeft f a) (f .store) left-header
 
   pub left-store : KeyStore (storeLeft f a)
-  left-store = rw (store-left f a good (begun .store)) (zeroed-store (f .store) (begun .store) (front a) most)
+  left-store = rw (store-left f a laid (begun .store)) (zeroed-store (f .store) (begun .store) (front a) most)
 
   pub left-bad : badStore (storeLeft f a) ≡ badStore (f .store)
   left-bad = key-store (storeLeft f a) .1 left-store ∙ sym (key-store (f .store) .1 (begun .store))
 
   pub left-logs : length (logsLeft f a) ≡ length (f .logs)
-  left-logs = placed-length f 0 (a .logs) (f .logs) (logs-room f begun (a .logs) (good .logs))
+  left-logs = placed-length f 0 (a .logs) (f .logs) (logs-room f begun (a .logs) (laid .logs))
 
   pub left-bad-logs : badLogs (storeLeft f a) (logsLeft f a) ≡ badLogs (f .store) (f .logs)
   unfolding badLogs

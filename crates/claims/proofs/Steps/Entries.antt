@@ -11,8 +11,8 @@ use lib.ListN.{length, getD, take, set, length-append, length-set}
 use lib.Seq.{getD-set-same, getD-set-other, take-append-seam, drop-append-seam, take-length}
 use borrow.Author.Tests.{eqb-true, eqb-false}
 use Rattle.scheme.specs.Bytes.{part}
-use Rattle.scheme.specs.Store.{dataLimit, logCapacity, phases, chunkCount}
-use Rattle.scheme.specs.Items.{itemMessage, entryHeadLength, entryLength, dataOf}
+use Rattle.scheme.specs.Store.{entryKind, dataLimit, logCapacity, phases, chunkCount}
+use Rattle.scheme.specs.Items.{entryHead, itemMessage, entryHeadLength, entryLength, kindOf, dataOf}
 use Rattle.scheme.specs.Keys.{tagOf}
 use Rattle.scheme.specs.Areas.{areasIn, areaOf, Runs}
 use Rattle.scheme.proofs.Parameters.{entry-value}
@@ -20,9 +20,9 @@ use Rattle.scheme.proofs.Tags.{tag-length}
 use Rattle.scheme.proofs.Runs.{run-none, run-one}
 use Rattle.scheme.proofs.Items.{MadeEntry, made-entry, entry-fields, entry-length, entry-data}
 use Rattle.claims.specs.Account.{Fed, Account, logOf, dueKey, headDue, entryDue, sealReached}
-use Rattle.claims.proofs.Good.{Good, logIn, memoryWith, Logs, InLog}
+use Rattle.claims.proofs.Good.{logIn, memoryWith, Logs, InLog, Laid}
 use Rattle.claims.proofs.Steps.Begun.{Begun}
-use Rattle.claims.proofs.Steps.Adding.{Adds, made-own, item-due, stands-there}
+use Rattle.claims.proofs.Steps.Adding.{Adds, made-own, item-due}
 use Rattle.claims.proofs.Steps.LogsLeft.{log-part, item-kept}
 
 -- what an append that is not refused has found
@@ -38,6 +38,10 @@ pub record Appends (f : Fed) (a : Account) (phase : ℕ) (bytes : List ℕ) : Ty
 abbrev pub logsWith : Account → ℕ → List ℕ → List (List ℕ)
 logsWith a phase bytes = set (a .logs) (phase - 1) (logOf a phase ++ bytes)
 
+pub entry-kind : (f : Fed) (a : Account) (phase : ℕ) (bytes : List ℕ) → kindOf (entryDue f a phase bytes) ≡ entryKind
+unfolding entryDue entryHead
+entry-kind f a phase bytes = refl
+
 pub entry-long : (f : Fed) → Begun f → (a : Account) (phase : ℕ) (bytes : List ℕ) → length (entryDue f a phase bytes) ≡ entryLength (f .store)
 unfolding entryDue
 entry-long f begun a phase bytes =
@@ -47,7 +51,7 @@ entry-long f begun a phase bytes =
     ∙ ap (λ (n : ℕ). entryHeadLength + n) (tag-length (f .store) key message (begun .store .set .tagHigh))
     ∙ sym (entry-value (f .store))
 
-module _ (f : Fed) (begun : Begun f) (a : Account) (good : Good f a) (free : a .waiting ≡ 0) (phase : ℕ) (bytes : List ℕ) (asks : Appends f a phase bytes) where
+module _ (f : Fed) (begun : Begun f) (a : Account) (laid : Laid f a) (phase : ℕ) (bytes : List ℕ) (asks : Appends f a phase bytes) where
   -- the log of the phase grows, and no other
   log-same : (q : ℕ) → q - 1 ≡ phase - 1 → getD (logsWith a phase bytes) (q - 1) [] ≡ logOf a phase ++ bytes
   log-same q e = rw e (getD-set-same (a .logs) (phase - 1) (logOf a phase ++ bytes) [] (omega arith))
@@ -58,10 +62,10 @@ module _ (f : Fed) (begun : Begun f) (a : Account) (good : Good f a) (free : a .
   grown-logs : Logs f (logsWith a phase bytes)
   grown-logs =
       record {
-        count = length-set (a .logs) (phase - 1) (logOf a phase ++ bytes) ∙ good .logs .count;
+        count = length-set (a .logs) (phase - 1) (logOf a phase ++ bytes) ∙ laid .logs .count;
         sizes = λ i. by-cases (ℕ-discrete i (phase - 1))
             (λ here. rw (here, log-same phase refl, length-append) (asks .fits))
-            (λ other. rw (log-other i other) (good .logs .sizes i));
+            (λ other. rw (log-other i other) (laid .logs .sizes i));
       }
 
   grown-front : (q : ℕ) → take (length (logOf a q)) (logIn (logsWith a phase bytes) q) ≡ logOf a q
@@ -115,16 +119,15 @@ module _ (f : Fed) (begun : Begun f) (a : Account) (good : Good f a) (free : a .
       let high = begun .store .set in
       let made : MadeEntry (head ++ tag) phase (length (logOf a phase)) (length bytes) =
       entry-fields _ _ tag _ _ _
-      (omega (arith, good .logs .sizes (phase - 1), high .capacityHigh)) (omega (arith, asks .few, high .dataHigh)) in
-      let is = made-entry (a .c) (a .r) tag (omega (arith, asks .room, begun .store .chunksHigh)) (omega (arith, good .offset, begun .store .ratchetHigh)) phase (length (logOf a phase)) (length bytes) in
-      let own = made-own a (head ++ tag) head tag is in
+      (omega (arith, laid .logs .sizes (phase - 1), high .capacityHigh)) (omega (arith, asks .few, high .dataHigh)) in
+      let is = made-entry (a .c) (a .r) tag (omega (arith, asks .room, begun .store .chunksHigh)) (omega (arith, laid .offset, begun .store .ratchetHigh)) phase (length (logOf a phase)) (length bytes) in
       record {
         room = asks .room;
         sealed = rw long (asks .sealed);
         fit = grown-logs;
-        own = own;
+        own = made-own a (head ++ tag) head tag is;
         fresh = item-due f a (head ++ tag) head bytes tag logs (inl (made .kind, long)) (λ kind. item-ranges (head ++ tag) made)
-            (stands-there f a good free (head ++ tag) (λ kind. omega (arith, kind, made .kind)) own) is refl (item-data (head ++ tag) made);
-        kept = item-kept f begun (a .logs) logs (good .logs) grown-logs grown-front;
+            is refl (item-data (head ++ tag) made);
+        kept = item-kept f begun (a .logs) logs (laid .logs) grown-logs grown-front;
         runs = item-runs (head ++ tag) made;
       }

@@ -11,8 +11,10 @@ use lib.ListN.{length, length-append}
 use borrow.Author.Tests.{eq-eqb, ne-eqb, lt-ltb, le-ltb}
 use Rattle.scheme.specs.Store.{ratchet}
 use Rattle.scheme.specs.Items.{itemMessage, fillerHead, fillerHeadLength, fillerLength}
+use Rattle.scheme.specs.Due.{ownPlace, dueBehind}
 use Rattle.scheme.specs.Keys.{tagOf}
 use Rattle.scheme.specs.Areas.{areasIn, none}
+use Rattle.scheme.specs.Acceptable.{Stands}
 use Rattle.scheme.specs.Bytes.{joined}
 use Rattle.scheme.proofs.Tests.{either}
 use Rattle.scheme.proofs.Parameters.{filler-value}
@@ -20,9 +22,9 @@ use Rattle.scheme.proofs.Tags.{tag-length}
 use Rattle.scheme.proofs.Areas.{joined-last}
 use Rattle.scheme.proofs.Items.{made-filler, filler-kind, filler-length, filler-data}
 use Rattle.claims.specs.Account.{Fed, Account, dueKey, fillerDue, sealReached, stepOn, withItem, accountClose, afterClose}
-use Rattle.claims.proofs.Good.{Good, memoryWith}
+use Rattle.claims.proofs.Good.{memoryWith, Laid, counters, Good}
 use Rattle.claims.proofs.Steps.Begun.{Begun}
-use Rattle.claims.proofs.Steps.Adding.{Adds, half-free, made-own, item-due, stands-there, adds-good}
+use Rattle.claims.proofs.Steps.Adding.{Adds, half-free, made-own, item-due, stands-there, adds-laid, adds-good}
 use Rattle.claims.proofs.Steps.Stepping.{step-cases, step-items, step-waiting}
 use Rattle.claims.proofs.Steps.StoreLeft.{chunk-below}
 
@@ -34,28 +36,34 @@ filler-long f begun a =
     ∙ ap (λ (n : ℕ). fillerHeadLength + n) (tag-length (f .store) (dueKey f a) (itemMessage (f .store) (fillerHead (a .c) (a .r)) []) (begun .store .set .tagHigh))
     ∙ sym (filler-value (f .store))
 
-module _ (f : Fed) (begun : Begun f) (a : Account) (good : Good f a) where
+module _ (f : Fed) (begun : Begun f) (a : Account) (laid : Laid f a) where
   filler-adds : 0 < a .r .0 → sealReached a + fillerLength (f .store) ≤ length (f .seal) → Adds f a (fillerDue f a) (a .logs)
   unfolding fillerDue areasIn
   filler-adds inner sealed =
-      let free = half-free f a good inner in
-      let room = chunk-below f a good (begun .store) inner in
+      let room = chunk-below f a laid (begun .store) inner in
       let long = filler-long f begun a in
       let head = fillerHead (a .c) (a .r) in
       let tag = tagOf (f .store) (dueKey f a) (itemMessage (f .store) head []) in
       let kind = filler-kind (a .c) (a .r) tag in
-      let is = made-filler (a .c) (a .r) tag (omega (arith, room, begun .store .chunksHigh)) (omega (arith, good .offset, begun .store .ratchetHigh)) in
-      let own = made-own a (head ++ tag) head tag is in
+      let is = made-filler (a .c) (a .r) tag (omega (arith, room, begun .store .chunksHigh)) (omega (arith, laid .offset, begun .store .ratchetHigh)) in
       record {
         room = room;
         sealed = rw long sealed;
-        fit = good .logs;
-        own = own;
+        fit = laid .logs;
+        own = made-own a (head ++ tag) head tag is;
         fresh = item-due f a (head ++ tag) head [] tag (a .logs) (inr (inl (kind, long))) (λ entry. absurd (omega (arith, kind, entry)))
-            (stands-there f a good free (head ++ tag) (λ restart. omega (arith, kind, restart)) own) is refl (filler-data (f .store) (memoryWith f (a .logs)) (head ++ tag) kind);
-        kept = λ k it i. i;
+            is refl (filler-data (f .store) (memoryWith f (a .logs)) (head ++ tag) kind);
+        kept = λ it i. i;
         runs = λ q low high. rw kind none;
       }
+
+-- and it stands where a key is due
+filler-stands : (f : Fed) (a : Account) → Good f a → 0 < a .r .0 → ownPlace (fillerDue f a) ≡ counters a
+    → Stands (dueBehind (ratchet (f .store)) (a .items)) (fillerDue f a)
+unfolding fillerDue
+filler-stands f a good inner own =
+    let tag = tagOf (f .store) (dueKey f a) (itemMessage (f .store) (fillerHead (a .c) (a .r)) []) in
+    stands-there f a good (half-free f a good inner) _ (λ restart. omega (arith, filler-kind (a .c) (a .r) tag, restart)) own
 
 -- ---- up to offset 0
 
@@ -140,14 +148,26 @@ module _ (f : Fed) (begun : Begun f) where
   fill-sealed zero a = omega arith
   fill-sealed (suc k) a = omega (arith, fill-sealed k (filled f a), filled-sealed a)
 
-  pub fill-good : (k : ℕ) (a : Account) → Good f a → left f a ≡ k → sealReached a + k * fillerLength (f .store) ≤ length (f .seal)
-      → Good f (fill f k a)
-  unfolding fill
-  fill-good zero a good e h = good
-  fill-good (suc k) a good e h =
-      fill-good k (filled f a)
-      (adds-good f a good (fillerDue f a) (a .logs) (filler-adds f begun a good (left-some f a k e .0) (omega arith))) (left-next f a k (good .offset) e)
-      (omega (arith, filled-sealed a))
+  -- what holds after each filler holds after all
+  module _ (P : Account → Type 0) (below : (a : Account) → P a → a .r .0 < ratchet (f .store))
+      (on : (a : Account) → P a → 0 < a .r .0 → sealReached a + fillerLength (f .store) ≤ length (f .seal) → P (filled f a)) where
+    fill-holds : (k : ℕ) (a : Account) → P a → left f a ≡ k → sealReached a + k * fillerLength (f .store) ≤ length (f .seal) → P (fill f k a)
+    unfolding fill
+    fill-holds zero a holds e h = holds
+    fill-holds (suc k) a holds e h =
+        fill-holds k (filled f a) (on a holds (left-some f a k e .0) (omega arith)) (left-next f a k (below a holds) e) (omega (arith, filled-sealed a))
+
+  pub fill-laid : (k : ℕ) (a : Account) → Laid f a → left f a ≡ k → sealReached a + k * fillerLength (f .store) ≤ length (f .seal) → Laid f (fill f k a)
+  fill-laid =
+      fill-holds (Laid f) (λ a laid. laid .offset)
+      (λ a laid inner sealed. adds-laid f a laid (fillerDue f a) (a .logs) (filler-adds f begun a laid inner sealed))
+
+  pub fill-good : (k : ℕ) (a : Account) → Good f a → left f a ≡ k → sealReached a + k * fillerLength (f .store) ≤ length (f .seal) → Good f (fill f k a)
+  fill-good =
+      fill-holds (Good f) (λ a good. good .laid .offset)
+      (λ a good inner sealed.
+      let adds = filler-adds f begun a (good .laid) inner sealed in
+      adds-good f a good (fillerDue f a) (a .logs) adds (filler-stands f a good inner (adds .own)))
 
   -- what close adds to the seal file
   pub close-sealed : (a : Account) → a .r .0 < ratchet (f .store) → sealReached (afterClose f a) ≡ sealReached a + left f a * fillerLength (f .store)

@@ -21,34 +21,35 @@ use Rattle.scheme.proofs.Bytes.{zeros}
 use Rattle.scheme.proofs.Scans.{nowhere}
 use Rattle.scheme.proofs.Headers.{SameFields}
 use Rattle.claims.specs.Account.{Fed, Account, carriedBy, lengthsOf, sealReached}
-use Rattle.claims.specs.Claim.{storeLeft, sealLeft}
-use Rattle.claims.proofs.Good.{Good, itemOf, front}
+use Rattle.claims.specs.Left.{storeLeft, sealLeft, eight, held, stateLeft}
+use Rattle.claims.specs.Claim.{ownItem}
+use Rattle.claims.proofs.Good.{front, Laid}
 use Rattle.claims.proofs.Steps.Begun.{Begun}
-use Rattle.claims.proofs.Steps.Device.{eight, held, stateOf, eight-log, lengths-length, left-fields, left-seal}
+use Rattle.claims.proofs.Steps.Device.{eight-log, lengths-length, left-fields, left-seal}
 use Rattle.claims.proofs.Steps.StoreLeft.{front-whole, front-half, chunk-at-most, chunk-below, burned-left}
 
 -- an item carries its chunk, which is burned
-carried-item : (items : List (List ℕ)) (k : ℕ) → k < length items → carriedBy items (chunkField (getD items k []) .0) ≡ true
+pub carried-item : (items : List (List ℕ)) (k : ℕ) → k < length items → carriedBy items (chunkField (getD items k []) .0) ≡ true
 unfolding carriedBy
 carried-item [] k h = absurd (omega arith)
 carried-item (it ∷ items) zero h = rw (eq-eqb (chunkField it .0) (chunkField it .0) refl)
 carried-item (it ∷ items) (suc k) h =
     either (λ t. t ≡ true) (eqb (chunkField it .0) (chunkField (getD items k []) .0)) refl (carried-item items k (omega arith))
 
-pub item-burned : (f : Fed) (a : Account) → Good f a → (k : ℕ) → k < length (a .items) → chunkField (itemOf a k) .0 < front a
-item-burned f a good k h =
-    let x = chunkField (itemOf a k) .0 in
-    ltb-true x (front a) (sym (good .burned x) ∙ carried-item (a .items) k h)
+pub item-burned : (f : Fed) (a : Account) → Laid f a → (k : ℕ) → k < length (a .items) → chunkField (ownItem a k) .0 < front a
+item-burned f a laid k h =
+    let x = chunkField (ownItem a k) .0 in
+    ltb-true x (front a) (sym (laid .burned x) ∙ carried-item (a .items) k h)
 
-module _ (f : Fed) (begun : Begun f) (a : Account) (good : Good f a) where
+module _ (f : Fed) (begun : Begun f) (a : Account) (laid : Laid f a) where
   fields : SameFields (storeLeft f a) (f .store)
-  fields = left-fields f begun a good
+  fields = left-fields f begun a laid
 
   chunk-test : anyTrue (eqb (a .r .0) 0 ∷ ltb (a .c .0) (chunkCount (f .store)) ∷ []) ≡ true
   chunk-test =
       either-true _ _ .1 (by-cases (ℕ-discrete (a .r .0) 0)
       (λ none. inl (eq-eqb (a .r .0) 0 none))
-      (λ some. inr (lt-ltb (a .c .0) (chunkCount (f .store)) (chunk-below f a good (begun .store) (omega arith)))))
+      (λ some. inr (lt-ltb (a .c .0) (chunkCount (f .store)) (chunk-below f a laid (begun .store) (omega arith)))))
 
   burned-test : anyTrue (not (ltb (a .c .0) (chunkCount (f .store))) ∷ Bool·beq (burned (storeLeft f a) (a .c .0)) (ltb 0 (a .r .0)) ∷ []) ≡ true
   burned-test =
@@ -57,7 +58,7 @@ module _ (f : Fed) (begun : Begun f) (a : Account) (good : Good f a) where
         (λ h. omega (arith, front-half a h)),
       ) in
       either-true _ _ .1 (by-cases (decLt (a .c .0) (chunkCount (f .store)))
-      (λ below. inr (rw (burned-left f a good (begun .store) (begun .unused) (a .c .0) below, good .burned (a .c .0), same, same-beq)))
+      (λ below. inr (rw (burned-left f a laid (begun .store) (begun .unused) (a .c .0) below, laid .burned (a .c .0), same, same-beq)))
       (λ over. inl (ap not (le-ltb (a .c .0) (chunkCount (f .store)) (omega arith)))))
 
   over-test : not (anyOver (logCapacity (f .store)) (eight (a .logs))) ≡ true
@@ -65,24 +66,24 @@ module _ (f : Fed) (begun : Begun f) (a : Account) (good : Good f a) where
   over-test =
       ap not
       (nowhere _ 0 (length (eight (a .logs)))
-      (λ i low high. rw (eight-log (a .logs) (8 - length (a .logs)) i) (le-ltb (logCapacity (f .store)) (length (getD (a .logs) i [])) (good .logs .sizes i))))
+      (λ i low high. rw (eight-log (a .logs) (8 - length (a .logs)) i) (le-ltb (logCapacity (f .store)) (length (getD (a .logs) i [])) (laid .logs .sizes i))))
 
   zero-test : allZero (drop (phases (f .store)) (eight (a .logs))) ≡ true
   zero-test =
-      ap allZero (drop-at (lengthsOf (a .logs)) (replicate (8 - length (a .logs)) 0) (phases (f .store)) (lengths-length (a .logs) ∙ good .logs .count))
+      ap allZero (drop-at (lengthsOf (a .logs)) (replicate (8 - length (a .logs)) 0) (phases (f .store)) (lengths-length (a .logs) ∙ laid .logs .count))
       ∙ zeros (8 - length (a .logs))
 
   held-fits : fits (storeLeft f a) (held f a) (length (sealLeft f a)) ≡ true
   unfolding fits
   held-fits =
       each-true _ (
-      rw (fields .ratchet) (lt-ltb (a .r .0) (ratchet (f .store)) (good .offset))
-      also rw (fields .chunkCount) (le-leb (a .c .0) (chunkCount (f .store)) (chunk-at-most f a good (begun .store)))
+      rw (fields .ratchet) (lt-ltb (a .r .0) (ratchet (f .store)) (laid .offset))
+      also rw (fields .chunkCount) (le-leb (a .c .0) (chunkCount (f .store)) (chunk-at-most f a laid (begun .store)))
       also rw (fields .chunkCount) chunk-test
       also rw (fields .chunkCount) burned-test
       also rw (fields .logCapacity) over-test
       also rw (fields .phases) zero-test
-      also rw (left-seal f begun a good) (le-leb (sealReached a) (length (f .seal)) (good .sealed))
+      also rw (left-seal f begun a laid) (le-leb (sealReached a) (length (f .seal)) (laid .sealed))
       also tt
       )
 
@@ -95,16 +96,16 @@ module _ (f : Fed) (begun : Begun f) (a : Account) (good : Good f a) where
 
       first : burned (storeLeft f a) 0 ≡ true
       first =
-          burned-left f a good (begun .store) (begun .unused) 0 (begun .store .chunksLow)
-          ∙ good .burned 0
-          ∙ lt-ltb 0 (front a) (omega (arith, item-burned f a good 0 h))
+          burned-left f a laid (begun .store) (begun .unused) 0 (begun .store .chunksLow)
+          ∙ laid .burned 0
+          ∙ lt-ltb 0 (front a) (omega (arith, item-burned f a laid 0 h))
 
       clash : anyTrue (not (ltb 0 (chunkCount (storeLeft f a))) ∷ Bool·beq (burned (storeLeft f a) 0) (ltb 0 0) ∷ []) ≡ false
       clash = rw (chunks, first)
 
   -- 6 holds exactly where the state was lost
-  pub unfit-lost : not (fits (storeLeft f a) (stateOf f a) (length (sealLeft f a))) ≡ a .lost
-  unfit-lost = go (a .lost) (good .standing)
+  pub unfit-lost : not (fits (storeLeft f a) (stateLeft f a) (length (sealLeft f a))) ≡ a .lost
+  unfit-lost = go (a .lost) (laid .standing)
     where
       go : (t : Bool) → (t ≡ true → 0 < length (a .items)) → not (fits (storeLeft f a) (cond t zeroState (held f a)) (length (sealLeft f a))) ≡ t
       go true standing = ap not (zero-unfit (standing refl))

@@ -8,8 +8,8 @@ use native.Mathlib.Omega.{arith}
 use lib.ListN.{length, take, drop, length-take}
 use lib.Seq.{drop-drop}
 use Rattle.scheme.specs.Bytes.{part}
-use Rattle.scheme.specs.Store.{logPlace, phases}
-use Rattle.scheme.specs.Items.{itemMessage, isEntry, phaseOf, logOffset, dataLength, headOf, dataOf, messageOf}
+use Rattle.scheme.specs.Store.{entryKind, logPlace, phases}
+use Rattle.scheme.specs.Items.{itemMessage, kindOf, isEntry, phaseOf, logOffset, dataLength, headOf, dataOf, messageOf}
 use Rattle.scheme.specs.Keys.{keyOf, tagOf}
 use Rattle.scheme.specs.Acceptable.{ItemOf}
 use Rattle.scheme.proofs.Parameters.{log-inside}
@@ -44,14 +44,15 @@ module _ (f : Fed) (begun : Begun f) (logs more : List (List ℕ)) (ok : Logs f 
       let longer = sym (length-take (length (logIn logs p)) (logIn more p)) ∙ ap length (grows p) in
       record { low = e .low; high = e .high; some = e .some; few = e .few; inside = omega (arith, e .inside) }
 
-  data-kept : (taken : List (List ℕ)) (it : List ℕ) → ItemAt f logs taken it → dataOf (f .store) (memoryWith f logs) it ≡ dataOf (f .store) (memoryWith f more) it
+  pub data-kept : (it : List ℕ) → ItemOf (f .store) it → (kindOf it ≡ entryKind → InLog f logs it)
+      → dataOf (f .store) (memoryWith f logs) it ≡ dataOf (f .store) (memoryWith f more) it
   unfolding dataOf
-  data-kept taken it i = go (i .form)
+  data-kept it form ranges = go form
     where
       go : ItemOf (f .store) it → dataOf (f .store) (memoryWith f logs) it ≡ dataOf (f .store) (memoryWith f more) it
       go (inl entry) =
           let p = phaseOf it in
-          let e = i .ranges (entry .0) in
+          let e = ranges (entry .0) in
           ap (λ (d : List ℕ). cond (isEntry it) d [])
           (log-part f begun logs ok p (logOffset it) (dataLength it) (e .low) (e .high) (e .inside)
           ∙ sym
@@ -61,12 +62,11 @@ module _ (f : Fed) (begun : Begun f) (logs more : List (List ℕ)) (ok : Logs f 
       go (inr (inl filler)) = rw (filler .0)
       go (inr (inr restart)) = rw (restart .0)
 
-  pub item-kept : (taken : List (List ℕ)) (it : List ℕ) → ItemAt f logs taken it → ItemAt f more taken it
+  pub item-kept : (it : List ℕ) → ItemAt f logs it → ItemAt f more it
   unfolding messageOf
-  item-kept taken it i =
+  item-kept it i =
       record {
         form = i .form;
         ranges = λ kind. in-log it (i .ranges kind);
-        place = i .place;
-        tag = i .tag ∙ ap (λ (d : List ℕ). tagOf (f .store) (keyOf (f .store) it) (itemMessage (f .store) (headOf it) d)) (data-kept taken it i);
+        tag = i .tag ∙ ap (λ (d : List ℕ). tagOf (f .store) (keyOf (f .store) it) (itemMessage (f .store) (headOf it) d)) (data-kept it (i .form) (i .ranges));
       }

@@ -8,25 +8,24 @@ use native.Mathlib.Decide.{ℕ-discrete, decLt}
 use native.Mathlib.Omega.{arith}
 use lib.Dec.{eqb, ltb}
 use lib.ListN.{length, getD, replicate, replicate-append-replicate, List·getD-eq-default}
-use borrow.Author.Tests.{eqb-true, ltb-false, lt-ltb, le-ltb, eq-eqb, ne-eqb}
+use borrow.Author.Tests.{eqb-true, ltb-false, lt-ltb, le-ltb, eq-eqb}
 use Rattle.scheme.specs.Rules.{refusalBy, someFrom, row}
-use Rattle.scheme.specs.Store.{phases, chunkCount, ratchet, burned, burnedFront, burnedLater}
+use Rattle.scheme.specs.Store.{phases, chunkCount, burned, burnedFront, burnedLater}
 use Rattle.scheme.specs.State.{zeroState, openedState}
 use Rattle.scheme.specs.Sealer.{openRules, opens}
 use Rattle.scheme.specs.Areas.{areasIn}
-use Rattle.scheme.specs.Due.{KeyPlace, keyPlace, dueFrom, dueBehind}
 use Rattle.scheme.specs.Bytes.{joined}
 use Rattle.scheme.proofs.Scans.{same-scan, same-row, row-most, row-is}
 use Rattle.scheme.proofs.Headers.{same-bad-lengths}
 use Rattle.scheme.proofs.Runs.{run-ends}
-use Rattle.claims.specs.Account.{Call, Open, Fed, Account, lengthsReached, sealReached, carried, dueKey, withLost, losing, accountOpenRules, accountRefusal, accountCount, accountDone, accountRefused, Allowed}
-use Rattle.claims.specs.Claim.{storeLeft, logsLeft, sealLeft}
-use Rattle.claims.proofs.Good.{Good, front, counters, placeDue}
+use Rattle.claims.specs.Account.{Call, Open, Fed, Account, carriedBy, lengthsReached, sealReached, carried, dueKey, withLost, losing, accountOpenRules, accountRefusal, accountCount, accountDone, accountRefused, AllowedBy, Allowed}
+use Rattle.claims.specs.Left.{storeLeft, logsLeft, sealLeft, eight, held, stateLeft}
+use Rattle.claims.proofs.Good.{front, Laid}
 use Rattle.claims.proofs.Steps.Agrees.{Agrees, answer-done, step-done, answer-refused, step-refused, same-device}
 use Rattle.claims.proofs.Steps.Begun.{Begun}
-use Rattle.claims.proofs.Steps.Device.{eight, held, stateOf, deviceOf, lengths-length, lengths-none, left-fields, left-bad, left-bad-logs, left-seal}
-use Rattle.claims.proofs.Invariant.{done-good, refused-good}
-use Rattle.claims.proofs.Steps.StoreLeft.{front-whole, chunk-at-most, store-left, burned-left}
+use Rattle.claims.proofs.Steps.Device.{deviceOf, lengths-length, lengths-none, left-fields, left-bad, left-bad-logs, left-seal}
+use Rattle.claims.proofs.Invariant.{done-laid, refused-laid}
+use Rattle.claims.proofs.Steps.StoreLeft.{front-whole, front-half, chunk-at-most, store-left, burned-left}
 
 -- ---- with no items
 
@@ -38,14 +37,14 @@ no-items (it ∷ items) e = absurd (omega arith)
 first-key : (f : Fed) (a : Account) → a .r .0 ≡ 0 → held f a .key ≡ replicate 32 0
 first-key f a e = ap (λ (t : Bool). cond t (replicate 32 0) (dueKey f a)) (eq-eqb (a .r .0) 0 e)
 
-module _ (f : Fed) (begun : Begun f) (a : Account) (good : Good f a) (empty : length (a .items) ≡ 0) where
+module _ (f : Fed) (begun : Begun f) (a : Account) (laid : Laid f a) (empty : length (a .items) ≡ 0) where
   no-log : (i : ℕ) → length (getD (a .logs) i []) ≡ 0
   unfolding areasIn
   no-log i =
       by-cases (decLt i (phases (f .store)))
       (λ below.
       let there : suc i - 1 ≡ i = omega arith in
-      rw there at (run-ends (rw (no-items (a .items) empty) at (good .runs (suc i) (omega arith) (omega arith)))))
+      rw there at (run-ends (rw (no-items (a .items) empty) at (laid .runs (suc i) (omega arith) (omega arith)))))
       (λ above. ap length (List·getD-eq-default (a .logs) [] (omega arith)))
 
   no-lengths : eight (a .logs) ≡ replicate 8 0
@@ -59,27 +58,18 @@ module _ (f : Fed) (begun : Begun f) (a : Account) (good : Good f a) (empty : le
   unfolding joined
   no-seal = rw (no-items (a .items) empty)
 
-  -- the first key is due
-  no-place : placeDue a ≡ keyPlace 0 0
-  unfolding dueFrom
-  no-place = sym (good .due) ∙ ap (dueBehind (ratchet (f .store))) (no-items (a .items) empty)
-
-  none-waits : a .waiting ≡ 0
-  none-waits =
-      by-cases (ℕ-discrete (a .waiting) 0)
-      (λ none. none)
-      (λ some.
-      let first : keyPlace (a .c .0 - 1) (a .waiting) ≡ keyPlace 0 0 = rw (ne-eqb (a .waiting) 0 some) at no-place in
-      ap (λ (p : KeyPlace). p .offset .0) first)
-
-  first-place : counters a ≡ keyPlace 0 0
-  first-place = rw (eq-eqb (a .waiting) 0 none-waits) at no-place
-
-  pub no-chunk : a .c .0 ≡ 0
-  no-chunk = ap (λ (p : KeyPlace). p .chunk .0) first-place
+  -- no chunk is burned
+  no-front : front a ≡ 0
+  unfolding carriedBy
+  no-front =
+      let none : carriedBy (a .items) 0 ≡ false = rw (no-items (a .items) empty) refl in
+      omega (arith, ltb-false 0 (front a) (sym (laid .burned 0) ∙ none))
 
   pub no-offset : a .r .0 ≡ 0
-  no-offset = ap (λ (p : KeyPlace). p .offset .0) first-place
+  no-offset = by-cases (ℕ-discrete (a .r .0) 0) (λ none. none) (λ some. absurd (omega (arith, no-front, front-half a (omega arith))))
+
+  pub no-chunk : a .c .0 ≡ 0
+  no-chunk = sym (front-whole a no-offset) ∙ no-front
 
   pub empty-held : held f a ≡ zeroState
   empty-held =
@@ -94,13 +84,13 @@ module _ (f : Fed) (begun : Begun f) (a : Account) (good : Good f a) (empty : le
 
 -- ---- open
 
-module _ (f : Fed) (begun : Begun f) (a : Account) (good : Good f a) where
+module _ (f : Fed) (begun : Begun f) (a : Account) (laid : Laid f a) where
   burned-front : burnedFront (storeLeft f a) ≡ row (carried a) 0 (chunkCount (f .store))
   unfolding burnedFront
   burned-front =
-      rw (left-fields f begun a good .chunkCount)
+      rw (left-fields f begun a laid .chunkCount)
       (same-row (burned (storeLeft f a)) (carried a) 0 (chunkCount (f .store))
-      (λ x low high. burned-left f a good (begun .store) (begun .unused) x (omega arith)))
+      (λ x low high. burned-left f a laid (begun .store) (begun .unused) x (omega arith)))
 
   burned-later : burnedLater (storeLeft f a)
       ≡ someFrom (carried a) (row (carried a) 0 (chunkCount (f .store))) (chunkCount (f .store) - row (carried a) 0 (chunkCount (f .store)))
@@ -108,42 +98,42 @@ module _ (f : Fed) (begun : Begun f) (a : Account) (good : Good f a) where
   burned-later =
       let first = row (carried a) 0 (chunkCount (f .store)) in
       let most = row-most (carried a) 0 (chunkCount (f .store)) in
-      rw (burned-front, left-fields f begun a good .chunkCount)
+      rw (burned-front, left-fields f begun a laid .chunkCount)
       (same-scan (burned (storeLeft f a)) (carried a) first (chunkCount (f .store) - first)
-      (λ x low high. burned-left f a good (begun .store) (begun .unused) x (omega arith)))
+      (λ x low high. burned-left f a laid (begun .store) (begun .unused) x (omega arith)))
 
   -- at offset 0 the burned chunks at the front are those before the due one
   front-due : a .r .0 ≡ 0 → burnedFront (storeLeft f a) ≡ a .c .0
   front-due e =
       let ends = front-whole a e in
       burned-front
-      ∙ row-is (carried a) 0 (chunkCount (f .store)) (a .c .0) (chunk-at-most f a good (begun .store))
-      (λ x low high. good .burned x ∙ lt-ltb x (front a) (omega arith))
-      (λ h. good .burned (0 + a .c .0) ∙ le-ltb (0 + a .c .0) (front a) (omega arith))
+      ∙ row-is (carried a) 0 (chunkCount (f .store)) (a .c .0) (chunk-at-most f a laid (begun .store))
+      (λ x low high. laid .burned x ∙ lt-ltb x (front a) (omega arith))
+      (λ h. laid .burned (0 + a .c .0) ∙ le-ltb (0 + a .c .0) (front a) (omega arith))
 
   -- losing or finding the state changes no store
-  pub store-same : (lost : Bool) → Good f (withLost a lost) → storeLeft f a ≡ storeLeft f (withLost a lost)
-  store-same lost moved = store-left f a good (begun .store) ∙ sym (store-left f (withLost a lost) moved (begun .store))
+  pub store-same : (lost : Bool) → Laid f (withLost a lost) → storeLeft f a ≡ storeLeft f (withLost a lost)
+  store-same lost moved = store-left f a laid (begun .store) ∙ sym (store-left f (withLost a lost) moved (begun .store))
 
-  pub zero-held : zeroState ≡ stateOf f (losing a)
-  zero-held = go (a .lost) (ltb 0 (length (a .items))) (good .standing) refl
+  pub zero-held : zeroState ≡ stateLeft f (losing a)
+  zero-held = go (a .lost) (ltb 0 (length (a .items))) (laid .standing) refl
     where
       go : (t u : Bool) → (t ≡ true → 0 < length (a .items)) → ltb 0 (length (a .items)) ≡ u → zeroState ≡ cond (t || u) zeroState (held f a)
       go true u standing e = refl
       go false true standing e = refl
       go false false standing e =
-          sym (empty-held f begun a good (omega (arith, ltb-false 0 (length (a .items)) e)))
+          sym (empty-held f begun a laid (omega (arith, ltb-false 0 (length (a .items)) e)))
 
   module _ (lengths : List ℕ) (sealLength : ℕ) where
-    open-refusal : refusalBy (openRules (storeLeft f a) (logsLeft f a) lengths (sealLeft f a) sealLength) ≡ accountRefusal f a (Open lengths sealLength)
+    pub open-refusal : refusalBy (openRules (storeLeft f a) (logsLeft f a) lengths (sealLeft f a) sealLength) ≡ accountRefusal f a (Open lengths sealLength)
     unfolding openRules accountRefusal accountOpenRules
     open-refusal =
         rw (
-          left-bad f begun a good,
-          left-bad-logs f begun a good,
+          left-bad f begun a laid,
+          left-bad-logs f begun a laid,
           burned-later,
-          same-bad-lengths (storeLeft f a) (f .store) (left-fields f begun a good) lengths,
-          left-seal f begun a good,
+          same-bad-lengths (storeLeft f a) (f .store) (left-fields f begun a laid) lengths,
+          left-seal f begun a laid,
         )
 
     opened-held : a .r .0 ≡ 0 → lengths ≡ lengthsReached a → sealLength ≡ sealReached a → openedState (storeLeft f a) lengths sealLength ≡ held f a
@@ -161,7 +151,7 @@ module _ (f : Fed) (begun : Begun f) (a : Account) (good : Good f a) where
 
     pub open-agrees : Allowed f a (Open lengths sealLength)
         → Agrees f a (Open lengths sealLength) (opens (storeLeft f a) (logsLeft f a) lengths (sealLeft f a) sealLength)
-    unfolding opens Allowed accountCount accountDone accountRefused
+    unfolding opens AllowedBy accountCount accountDone accountRefused
     open-agrees allowed = rw open-refusal (go (eqb (accountRefusal f a (Open lengths sealLength)) 0) refl)
       where
         call : Call
@@ -183,13 +173,13 @@ module _ (f : Fed) (begun : Begun f) (a : Account) (good : Good f a) where
             record {
               answer = ap (λ (n : ℕ). record { refusal = n; count = 0 }) none ∙ sym (answer-done f a call none);
               device = same-device (opened-held (omega arith) (given .1) (given .2))
-                  (store-same false (done-good f begun a call good allowed none)) refl refl
+                  (store-same false (done-laid f begun a call laid none)) refl refl
                   ∙ ap (deviceOf f) (sym (step-done f a call none));
             }
         go false e =
             record {
               answer = sym (answer-refused f a call e);
               device = same-device zero-held
-                  (store-same (a .lost || ltb 0 (length (a .items))) (refused-good f begun a call good)) refl refl
+                  (store-same (a .lost || ltb 0 (length (a .items))) (refused-laid f begun a call laid)) refl refl
                   ∙ ap (deviceOf f) (sym (step-refused f a call e));
             }

@@ -9,7 +9,7 @@ use Rattle.scheme.specs.Store.{logCapacity, logPlace}
 use Rattle.scheme.proofs.Parameters.{log-next}
 use Rattle.scheme.proofs.Splice.{splice-length, splice-before, splice-inside, splice-twice, splice-apart}
 use Rattle.claims.specs.Account.{Fed}
-use Rattle.claims.specs.Claim.{placed}
+use Rattle.claims.specs.Left.{placed}
 
 -- logs from phase p on fit into a memory
 pub record Room (f : Fed) (p : ℕ) (logs : List (List ℕ)) (memory : List ℕ) : Type 0 where

@@ -18,47 +18,47 @@ use Rattle.scheme.proofs.Areas.{joined-last}
 use Rattle.scheme.proofs.Headers.{same-restart-length}
 use Rattle.scheme.proofs.Tags.{same-tag}
 use Rattle.scheme.proofs.Burning.{zeroed}
-use Rattle.claims.specs.Account.{Restart, Fed, Account, carried, sealReached, restartDue, withLost, withItem, stepOn, accountRestart, accountRestartRules, accountRefusal, accountCount, accountDone, accountRefused, Allowed}
+use Rattle.claims.specs.Account.{Restart, Fed, Account, carried, sealReached, restartDue, withLost, withItem, stepOn, accountRestart, accountRestartRules, accountRefusal, accountCount, accountDone, accountRefused}
 use Rattle.claims.specs.Run.{deviceAfter, answerOf}
-use Rattle.claims.specs.Claim.{storeLeft, logsLeft, sealLeft, placed}
-use Rattle.claims.proofs.Good.{Good}
+use Rattle.claims.specs.Left.{storeLeft, logsLeft, sealLeft, placed, eight, held, stateLeft}
+use Rattle.claims.proofs.Good.{Laid}
 use Rattle.claims.proofs.Steps.Agrees.{Agrees, agree, same-device}
 use Rattle.claims.proofs.Steps.Begun.{Begun}
-use Rattle.claims.proofs.Steps.Device.{eight, held, stateOf, state-held, deviceOf, left-fields, left-bad, left-bad-logs, left-seal, seal-append}
+use Rattle.claims.proofs.Steps.Device.{state-held, deviceOf, left-fields, left-bad, left-bad-logs, left-seal, seal-append}
 use Rattle.claims.proofs.Steps.Fits.{unfit-lost}
 use Rattle.claims.proofs.Steps.Restarts.{restart-long}
-use Rattle.claims.proofs.Invariant.{restart-asks, done-good}
+use Rattle.claims.proofs.Invariant.{restart-asks, done-laid}
 use Rattle.claims.proofs.Steps.States.{first-due, stepped-held, burned-due, step-front}
 use Rattle.claims.proofs.Steps.Stepping.{step-items, step-logs, step-lost}
 use Rattle.claims.proofs.Steps.StoreLeft.{store-left, burned-left}
 
-module _ (f : Fed) (begun : Begun f) (a : Account) (good : Good f a) (number : ℕ) where
+module _ (f : Fed) (begun : Begun f) (a : Account) (laid : Laid f a) (number : ℕ) where
   -- a chunk is burned just where an item carries one
   any-left : anyBurned (storeLeft f a) ≡ someFrom (carried a) 0 (chunkCount (f .store))
   unfolding anyBurned
   any-left =
-      rw (left-fields f begun a good .chunkCount)
+      rw (left-fields f begun a laid .chunkCount)
       (same-scan (burned (storeLeft f a)) (carried a) 0 (chunkCount (f .store))
-      (λ x low high. burned-left f a good (begun .store) (begun .unused) x (omega arith)))
+      (λ x low high. burned-left f a laid (begun .store) (begun .unused) x (omega arith)))
 
-  restart-refusal : refusalBy (restartRules (stateOf f a) (storeLeft f a) (logsLeft f a) (sealLeft f a) number) ≡ accountRefusal f a (Restart number)
+  restart-refusal : refusalBy (restartRules (stateLeft f a) (storeLeft f a) (logsLeft f a) (sealLeft f a) number) ≡ accountRefusal f a (Restart number)
   unfolding refusalBy restartRules accountRefusal accountRestartRules
-  restart-refusal = go (a .lost) (unfit-lost f begun a good)
+  restart-refusal = go (a .lost) (unfit-lost f begun a laid)
     where
       go : (t : Bool) → not (fits (storeLeft f a) (cond t zeroState (held f a)) (length (sealLeft f a))) ≡ t
           → refusalBy (restartRules (cond t zeroState (held f a)) (storeLeft f a) (logsLeft f a) (sealLeft f a) number)
           ≡ refusalBy (accountRestartRules f (withLost a t) number)
       go true unfit =
-          rw (left-bad f begun a good, left-bad-logs f begun a good, unfit, begun .starts .store, begun .starts .logs)
+          rw (left-bad f begun a laid, left-bad-logs f begun a laid, unfit, begun .starts .store, begun .starts .logs)
       go false unfit =
           rw (
-            left-bad f begun a good,
-            left-bad-logs f begun a good,
+            left-bad f begun a laid,
+            left-bad-logs f begun a laid,
             unfit,
-            left-fields f begun a good .ratchet,
-            left-fields f begun a good .chunkCount,
-            same-restart-length (storeLeft f a) (f .store) (left-fields f begun a good),
-            left-seal f begun a good,
+            left-fields f begun a laid .ratchet,
+            left-fields f begun a laid .chunkCount,
+            same-restart-length (storeLeft f a) (f .store) (left-fields f begun a laid),
+            left-seal f begun a laid,
             any-left,
           )
 
@@ -69,45 +69,45 @@ module _ (f : Fed) (begun : Begun f) (a : Account) (good : Good f a) (number : �
   -- its item is the account's
   item-made : a .r .0 ≡ 0 → restartItem (storeLeft f a) (held f a) number ≡ restartDue f a number
   unfolding restartItem restartDue
-  item-made first = rw (first-due f begun a good first, same-tag (storeLeft f a) (f .store) (left-fields f begun a good), left-fields f begun a good .id)
+  item-made first = rw (first-due f begun a laid first, same-tag (storeLeft f a) (f .store) (left-fields f begun a laid), left-fields f begun a laid .id)
 
   restart-state : a .r .0 ≡ 0
       → stepped (storeLeft f a) (chunk (storeLeft f a) (a .c .0)) (sealedMore (held f a) (restartLength (storeLeft f a)))
       ≡ held f (stepOn f (withItem a (restartDue f a number)))
   restart-state first =
-      ap₂ (stepped (storeLeft f a)) (first-due f begun a good first)
+      ap₂ (stepped (storeLeft f a)) (first-due f begun a laid first)
       (ap (λ (sealed : ℕ). record { chunk = a .c; offset = a .r; key = held f a .key; lengths = eight (a .logs); «seal_length» = sealed }) sealed-more)
-      ∙ stepped-held f (storeLeft f a) (left-fields f begun a good) (withItem a (restartDue f a number)) (good .offset) (held f a .key)
+      ∙ stepped-held f (storeLeft f a) (left-fields f begun a laid) (withItem a (restartDue f a number)) (laid .offset) (held f a .key)
     where
       sealed-more : sealReached a + restartLength (storeLeft f a) ≡ length (joined (a .items ++ (restartDue f a number ∷ [])))
-      sealed-more = rw (joined-last, length-append, restart-long f begun, same-restart-length (storeLeft f a) (f .store) (left-fields f begun a good))
+      sealed-more = rw (joined-last, length-append, restart-long f begun, same-restart-length (storeLeft f a) (f .store) (left-fields f begun a laid))
 
-  restart-device : Allowed f a (Restart number) → accountRefusal f a (Restart number) ≡ 0
+  restart-device : accountRefusal f a (Restart number) ≡ 0
       → deviceAfter (restarted (held f a) (storeLeft f a) (logsLeft f a) (sealLeft f a) number) ≡ deviceOf f (accountDone f a (Restart number))
   unfolding restarted accountDone accountRestart
-  restart-device allowed e =
-      let asks = restart-asks f begun a good number e in
+  restart-device e =
+      let asks = restart-asks f begun a laid number e in
       let it = restartDue f a number in
       let b = withItem a it in
       same-device
       (restart-state (asks .first) ∙ sym (state-held f (stepOn f b) (step-lost f b ∙ restart-kept e)))
-      (burned-due f begun a good (asks .room)
+      (burned-due f begun a laid (asks .room)
       ∙ ap (zeroed (f .store)) (sym (step-front f b))
-      ∙ sym (store-left f (stepOn f b) (done-good f begun a (Restart number) good allowed e) (begun .store)))
+      ∙ sym (store-left f (stepOn f b) (done-laid f begun a (Restart number) laid e) (begun .store)))
       (ap (λ (logs : List (List ℕ)). placed f 1 logs (f .logs)) (sym (step-logs f b)))
       (rw (item-made (asks .first), step-items f b) (seal-append f a it (omega (arith, asks .sealed, restart-long f begun a number))))
 
   restart-answer : answerOf (restarted (held f a) (storeLeft f a) (logsLeft f a) (sealLeft f a) number)
       ≡ record { refusal = 0; count = accountCount f a (Restart number) }
   unfolding restarted accountCount
-  restart-answer = rw (left-fields f begun a good .ratchet)
+  restart-answer = rw (left-fields f begun a laid .ratchet)
 
-  pub restart-agrees : Allowed f a (Restart number) → Agrees f a (Restart number) (restarts (stateOf f a) (storeLeft f a) (logsLeft f a) (sealLeft f a) number)
+  pub restart-agrees : Agrees f a (Restart number) (restarts (stateLeft f a) (storeLeft f a) (logsLeft f a) (sealLeft f a) number)
   unfolding restarts accountRefused
-  restart-agrees allowed =
-      agree f a (Restart number) (refusalBy (restartRules (stateOf f a) (storeLeft f a) (logsLeft f a) (sealLeft f a) number))
-      (restarted (stateOf f a) (storeLeft f a) (logsLeft f a) (sealLeft f a) number)
+  restart-agrees =
+      agree f a (Restart number) (refusalBy (restartRules (stateLeft f a) (storeLeft f a) (logsLeft f a) (sealLeft f a) number))
+      (restarted (stateLeft f a) (storeLeft f a) (logsLeft f a) (sealLeft f a) number)
       restart-refusal
       (λ e. ap (λ (s : State). answerOf (restarted s (storeLeft f a) (logsLeft f a) (sealLeft f a) number)) (state-held f a (restart-kept e)) ∙ restart-answer)
-      (λ e. ap (λ (s : State). deviceAfter (restarted s (storeLeft f a) (logsLeft f a) (sealLeft f a) number)) (state-held f a (restart-kept e)) ∙ restart-device allowed e)
+      (λ e. ap (λ (s : State). deviceAfter (restarted s (storeLeft f a) (logsLeft f a) (sealLeft f a) number)) (state-held f a (restart-kept e)) ∙ restart-device e)
       refl

@@ -20,10 +20,10 @@ use Rattle.scheme.proofs.Headers.{SameFields, same-entry-length, same-filler-le
 use Rattle.scheme.proofs.Tags.{same-tag}
 use Rattle.scheme.proofs.Burning.{zeroed, zeroed-later, zeroed-next}
 use Rattle.claims.specs.Account.{Fed, Account, logOf, sealReached, dueKey, entryDue, fillerDue, withItem, withData, stepOn}
-use Rattle.claims.specs.Claim.{storeLeft, sealLeft}
-use Rattle.claims.proofs.Good.{Good, front}
+use Rattle.claims.specs.Left.{storeLeft, sealLeft, eight, holding, held}
+use Rattle.claims.proofs.Good.{front, Laid}
 use Rattle.claims.proofs.Steps.Begun.{Begun}
-use Rattle.claims.proofs.Steps.Device.{eight, holding, held, eight-log, lengths-set, left-fields, seal-append}
+use Rattle.claims.proofs.Steps.Device.{eight-log, lengths-set, left-fields, seal-append}
 use Rattle.claims.proofs.Steps.Fillers.{left, left-some, left-next, fill, filled, filled-below, filler-long, filled-sealed}
 use Rattle.claims.proofs.Steps.Stepping.{step-turned, step-onward, step-cases, step-items, step-logs, step-lost}
 use Rattle.claims.proofs.Steps.StoreLeft.{front-whole, store-left}
@@ -44,12 +44,12 @@ module _ (f : Fed) (store : List ℕ) (same : SameFields store (f .store)) where
       rw (step-onward f a apart, test, next-due (dueKey f a) (record { 0 = suc (a .r .0) }), ne-eqb (suc (a .r .0)) 0 (λ z. omega arith)))
 
 -- the key that is used is the due one
-module _ (f : Fed) (begun : Begun f) (a : Account) (good : Good f a) where
+module _ (f : Fed) (begun : Begun f) (a : Account) (laid : Laid f a) where
   pub first-due : a .r .0 ≡ 0 → chunk (storeLeft f a) (a .c .0) ≡ dueKey f a
   unfolding keyAfter
   first-due first =
-      ap (λ (st : List ℕ). chunk st (a .c .0)) (store-left f a good (begun .store))
-      ∙ zeroed-later (f .store) (begun .store) (front a) (good .spent) (a .c .0) (omega (arith, front-whole a first))
+      ap (λ (st : List ℕ). chunk st (a .c .0)) (store-left f a laid (begun .store))
+      ∙ zeroed-later (f .store) (begun .store) (front a) (laid .spent) (a .c .0) (omega (arith, front-whole a first))
       ∙ ap (keyAfter (f .store) (a .c)) (sym first)
 
   used-due : usedKey (storeLeft f a) (held f a) ≡ dueKey f a
@@ -63,12 +63,12 @@ module _ (f : Fed) (begun : Begun f) (a : Account) (good : Good f a) where
   pub entry-made : (phase : ℕ) (bytes : List ℕ) → entryItem (storeLeft f a) (held f a) phase bytes ≡ entryDue f a phase bytes
   unfolding entryItem entryDue
   entry-made phase bytes =
-      rw (used-due, eight-log (a .logs) (8 - length (a .logs)) (phase - 1), same-tag (storeLeft f a) (f .store) (left-fields f begun a good), left-fields f begun a good .id)
+      rw (used-due, eight-log (a .logs) (8 - length (a .logs)) (phase - 1), same-tag (storeLeft f a) (f .store) (left-fields f begun a laid), left-fields f begun a laid .id)
 
   -- the chunk of the item is burned
   pub burned-due : a .c .0 < chunkCount (f .store) → burnedStore (storeLeft f a) (held f a) ≡ zeroed (f .store) (suc (a .c .0))
   unfolding burnedStore
-  burned-due room = rw (store-left f a good (begun .store)) (go (eqb (a .r .0) 0))
+  burned-due room = rw (store-left f a laid (begun .store)) (go (eqb (a .r .0) 0))
     where
       go : (t : Bool)
           → (let st = zeroed (f .store) (cond t (a .c .0) (suc (a .c .0))) in cond t (splice st (chunkPlace st (a .c .0)) (replicate 32 0)) st)
@@ -84,7 +84,7 @@ module _ (f : Fed) (begun : Begun f) (a : Account) (good : Good f a) where
       ap₂ (stepped (storeLeft f a)) used-due
       (ap₂ (λ (lengths : List ℕ) (sealed : ℕ). record { chunk = a .c; offset = a .r; key = held f a .key; lengths = lengths; «seal_length» = sealed })
       lengths-grown sealed-grown)
-      ∙ stepped-held f (storeLeft f a) (left-fields f begun a good) (withData (withItem a it) phase bytes) (good .offset) (held f a .key)
+      ∙ stepped-held f (storeLeft f a) (left-fields f begun a laid) (withData (withItem a it) phase bytes) (laid .offset) (held f a .key)
     where
       lengths-grown : set (eight (a .logs)) (phase - 1) (getD (eight (a .logs)) (phase - 1) 0 + length bytes)
           ≡ eight (set (a .logs) (phase - 1) (logOf a phase ++ bytes))
@@ -93,7 +93,7 @@ module _ (f : Fed) (begun : Begun f) (a : Account) (good : Good f a) where
           (lengths-set (a .logs) (8 - length (a .logs)) (phase - 1) (logOf a phase ++ bytes) h)
 
       sealed-grown : sealReached a + entryLength (storeLeft f a) ≡ length (joined (a .items ++ (it ∷ [])))
-      sealed-grown = rw (joined-last, length-append, long, same-entry-length (storeLeft f a) (f .store) (left-fields f begun a good))
+      sealed-grown = rw (joined-last, length-append, long, same-entry-length (storeLeft f a) (f .store) (left-fields f begun a laid))
 
 pub step-front : (f : Fed) (a : Account) → front (stepOn f a) ≡ suc (a .c .0)
 step-front f a =
