@@ -139,7 +139,8 @@ fn histories_are_those_of_their_account() {
     let mut tallies = Tallies::default();
     for mut case in run.each() {
         let tally = tallies.of(case.own_set);
-        accounts::check_history(&mut case, tally);
+        let recorded = accounts::check_history(&mut case, tally);
+        recorded.compare_lists(&mut case.random, tally);
     }
     tallies.print();
     if run.whole {
@@ -149,7 +150,7 @@ fn histories_are_those_of_their_account() {
         tallies.assert_all_met("restart", &[0, 6, 10, 11, 27], 50);
         tallies.assert_all_met("audit", &[0, 22], 50);
         tallies.assert_all_met("lookup", &[0, 22, 24], 50);
-        for counted in accounts::CUTS {
+        for counted in accounts::COUNTED {
             tallies.assert_more(counted, 50);
         }
     }

@@ -5,6 +5,7 @@ mod account;
 mod audit;
 mod bytes;
 mod claim;
+mod history;
 mod item;
 mod key;
 mod lookup;
@@ -16,9 +17,10 @@ mod tag;
 #[cfg(test)]
 mod tests;
 
-pub use account::{Account, Call, Event, is_history};
+pub use account::Account;
 pub use audit::{Presented, audit, audit_packed, log_lengths};
 pub use claim::{Outcome, outcomes};
+pub use history::{Call, Event, is_history, is_history_by_calls};
 pub use item::{Head, Item, items};
 pub use key::{Position, key_at, next_key, position, ratchet_head};
 pub use lookup::Audited;

@@ -2,7 +2,8 @@
 //! calls and cuts alone, then the audit of what they left.
 
 use pahyndoi::model::{
-    Account, Call, Event, Head, Item, Material, Set, State, is_history, plain_hmac,
+    Account, Call, Event, HMAC_LENGTH, Head, Item, Material, Set, State, is_history,
+    is_history_by_calls, plain_hmac,
 };
 
 use crate::answer::split;
@@ -22,14 +23,23 @@ pub const CUT_HALF_WAY: &str = "cuts half way through a chunk";
 pub const CUT_AGAIN: &str = "cuts while a chunk waits";
 pub const RESTARTED: &str = "accepted with restarts";
 pub const WAITING: &str = "refused with a chunk that waits";
-pub const CUTS: [&str; 6] = [
+pub const STILL_ONE: &str = "altered lists that are histories";
+pub const NONE: &str = "altered lists that are none";
+
+/// What is counted.
+pub const COUNTED: [&str; 8] = [
     CUT_UNUSED,
     CUT_BETWEEN,
     CUT_HALF_WAY,
     CUT_AGAIN,
     RESTARTED,
     WAITING,
+    STILL_ONE,
+    NONE,
 ];
+
+/// How many other lists are made of a history.
+const ALTERED: usize = 4;
 
 /// A device that the library's calls alone bring on, and its account.
 pub struct Recorded {
@@ -45,20 +55,42 @@ pub struct Recorded {
 /// Makes and checks a history, mostly brings it to an end and audits what it
 /// left.
 pub fn check_history(case: &mut Case, tally: &mut Tally) -> Recorded {
-    let mut recorded = Recorded::new(&mut case.random, case.own_set);
-    for number in 0..case.random.up_to(70) {
-        let event = recorded.random_event(&mut case.random);
-        case.step = format!("history, event {number}: {}", describe(&event));
-        recorded.make(event, tally);
-    }
-    case.step = "end of the history".to_string();
+    let shape = random_shape(&mut case.random, case.own_set);
+    let mut recorded = Recorded::new(&mut case.random, &shape);
+    recorded.go_on(case, tally, 70);
     if !case.random.once_in(3) {
         recorded.finish(tally);
     }
-    let Recorded { start, events, .. } = &recorded;
-    assert!(is_history(plain_hmac, start, events), "not a history");
-    recorded.audit(&mut case.random, tally);
+    recorded.check(&mut case.random, tally);
     recorded
+}
+
+fn random_shape(random: &mut Random, own_set: Option<Set>) -> Shape {
+    let most_keys = random.pick(&[1, 2, 3, 5, 12]);
+    Shape {
+        own_set,
+        phases: random.between(1, 8),
+        chunk_count: random.between(1, 40),
+        ratchet: match random.once_in(100) {
+            true => 256,
+            false => random.between(1, most_keys),
+        },
+        seal_memory: random.pick(&[0, 500, 3000, 20_000]) + random.up_to(100),
+    }
+}
+
+/// Whether these are a history. Fails where the account's refusals and those of
+/// the calls do not say the same.
+fn told_by_both(start: &Material, events: &[Event]) -> bool {
+    let by_account = is_history(no_hash, start, events);
+    let by_calls = is_history_by_calls(no_hash, start, events);
+    assert_eq!(by_account, by_calls, "history: by account, by calls");
+    by_account
+}
+
+/// No refusal of a call hangs on the hash.
+fn no_hash(_: &[u8], _: &[&[u8]]) -> [u8; HMAC_LENGTH] {
+    [1; HMAC_LENGTH]
 }
 
 fn describe(event: &Event) -> String {
@@ -79,18 +111,7 @@ fn is_restart(item: &Item) -> bool {
 }
 
 impl Recorded {
-    fn new(random: &mut Random, own_set: Option<Set>) -> Recorded {
-        let most_keys = random.pick(&[1, 2, 3, 5, 12]);
-        let shape = Shape {
-            own_set,
-            phases: random.between(1, 8),
-            chunk_count: random.between(1, 40),
-            ratchet: match random.once_in(100) {
-                true => 256,
-                false => random.between(1, most_keys),
-            },
-            seal_memory: random.pick(&[0, 500, 3000, 20_000]) + random.up_to(100),
-        };
+    fn new(random: &mut Random, shape: &Shape) -> Recorded {
         let start = shape.material(random);
         Recorded {
             account: Account::start(&start).expect("an unused store"),
@@ -105,12 +126,34 @@ impl Recorded {
         }
     }
 
-    /// An event that a history may go on with.
-    fn random_event(&self, random: &mut Random) -> Event {
-        let event = match random.once_in(20) {
+    /// Up to so many events.
+    fn go_on(&mut self, case: &mut Case, tally: &mut Tally, most: usize) {
+        for number in 0..case.random.up_to(most) {
+            let event = self.random_event(&mut case.random);
+            case.step = format!("history, event {number}: {}", describe(&event));
+            self.make(event, tally);
+        }
+        case.step = "end of the history".to_string();
+    }
+
+    /// What was made is a history, and the audit accepts what it left.
+    fn check(&self, random: &mut Random, tally: &mut Tally) {
+        let is_history = is_history(plain_hmac, &self.start, &self.events);
+        assert!(is_history, "not a history");
+        self.audit(random, tally);
+    }
+
+    /// An event that a history may go on with, or not.
+    fn any_event(&self, random: &mut Random) -> Event {
+        match random.once_in(20) {
             true => Event::Cut,
             false => Event::Call(self.random_call(random)),
-        };
+        }
+    }
+
+    /// An event that a history may go on with.
+    fn random_event(&self, random: &mut Random) -> Event {
+        let event = self.any_event(random);
         match self.account.allows(&event) {
             true => event,
             false => self.honest_step(),
@@ -230,6 +273,34 @@ impl Recorded {
         tally.count(counted, 1);
         self.account.cut();
         self.device.state = State::default();
+    }
+
+    /// The account's refusals and those of the calls tell the same histories:
+    /// this one, and others made of it that are none, or still are.
+    pub fn compare_lists(&self, random: &mut Random, tally: &mut Tally) {
+        assert!(told_by_both(&self.start, &self.events), "not a history");
+        for _ in 0..ALTERED {
+            let counted = match told_by_both(&self.start, &self.altered(random)) {
+                true => STILL_ONE,
+                false => NONE,
+            };
+            tally.count(counted, 1);
+        }
+    }
+
+    /// The events with one more among them, one fewer or two exchanged.
+    fn altered(&self, random: &mut Random) -> Vec<Event> {
+        let mut events = self.events.clone();
+        let place = random.up_to(events.len());
+        match random.up_to(3) {
+            0 if place < events.len() => drop(events.remove(place)),
+            1 if place < events.len() => {
+                let other = random.index(events.len());
+                events.swap(place, other);
+            }
+            _ => events.insert(place, self.any_event(random)),
+        }
+        events
     }
 
     /// Untouched material is accepted with the true count, but for a chunk

@@ -51,29 +51,7 @@ pub fn lost_state(call: &Call, answer: u64) -> bool {
 
 fn by_model(device: &mut Device, call: &Call) -> u64 {
     let Device { material, state } = device;
-    let (refusal, number) = match call {
-        Call::Open {
-            log_lengths,
-            seal_length,
-        } => {
-            let (refusal, opened) = model::open(material, log_lengths, *seal_length);
-            *state = opened;
-            (refusal, 0)
-        }
-        Call::Append { phase, data } => {
-            let answer = model::append(model::plain_hmac, material, state, *phase, data);
-            (answer.refusal, answer.number)
-        }
-        Call::Close => {
-            let answer = model::close(model::plain_hmac, material, state);
-            (answer.refusal, answer.number)
-        }
-        Call::Restart { number } => {
-            let answer = model::restart(model::plain_hmac, material, state, *number);
-            (answer.refusal, answer.number)
-        }
-    };
-    (u64::from(refusal) << 32) + u64::from(number)
+    call.make(model::plain_hmac, material, state).packed()
 }
 
 pub fn assert_same_material(ours: &Material, models: &Material) {

@@ -21,6 +21,15 @@ impl Random {
     }
 }
 
+/// By what the account refuses. Fails where the calls' own refusals say
+/// otherwise.
+fn is_history(start: &Material, events: &[Event]) -> bool {
+    let by_account = super::is_history(plain_hmac, start, events);
+    let by_calls = is_history_by_calls(plain_hmac, start, events);
+    assert_eq!(by_account, by_calls, "{events:?}");
+    by_account
+}
+
 /// Gives the refusal and the count of a call.
 fn perform(device: &mut Device, event: &Event) -> Option<(u32, u32)> {
     let Event::Call(call) = event else {
@@ -116,7 +125,7 @@ fn assert_audit_of_untouched(start: &Material, account: &Account) {
 #[test]
 fn calls_and_account_agree() {
     let mut random = Random(0x5ea1_ed10_65a5_1234);
-    let mut restarts = 0;
+    let (mut restarts, mut forbidden) = (0, 0);
     for round in 0..2000 {
         let ratchet = [1, 2, 3, 7][round % 4];
         let phases = random.up_to(7) as u8 + 1;
@@ -131,8 +140,9 @@ fn calls_and_account_agree() {
             let set = own_set.unwrap_or(Set::COMMON);
             let event = random_event(&mut random, set, &account, seal_memory);
             events.push(event);
-            if !is_history(plain_hmac, &start, &events) {
+            if !is_history(&start, &events) {
                 events.pop();
+                forbidden += 1;
                 continue;
             }
             let event = &events[events.len() - 1];
@@ -145,6 +155,7 @@ fn calls_and_account_agree() {
         assert_audit_of_untouched(&start, &account);
     }
     assert!(restarts > 100, "{restarts} restarts");
+    assert!(forbidden > 1000, "{forbidden} events");
 }
 
 fn count_restarts(account: &Account) -> usize {
@@ -172,7 +183,7 @@ fn which_lists_are_histories() {
     let start = material(1, 2, 2, 1000);
     let is_history = |calls: &[Call]| {
         let events: Vec<Event> = calls.iter().cloned().map(Event::Call).collect();
-        is_history(plain_hmac, &start, &events)
+        is_history(&start, &events)
     };
     assert!(is_history(&[]));
     assert!(is_history(&[append(3), Call::Close, open(&[3], 91)]));
@@ -196,7 +207,7 @@ fn which_material_starts_a_history() {
     let starts = |change: fn(&mut Material)| {
         let mut start = material(1, 2, 2, 1000);
         change(&mut start);
-        is_history(plain_hmac, &start, &[])
+        is_history(&start, &[])
     };
     assert!(starts(|_| ()));
     assert!(!starts(|start| start.store.push(1)));
@@ -286,7 +297,7 @@ fn which_lists_with_cuts_are_histories() {
             .cloned()
             .chain(calls.iter().map(call))
             .collect();
-        is_history(plain_hmac, &start, &events)
+        is_history(&start, &events)
     };
     let reopen = open(&[6], 100);
     assert!(is_history(&[]));
