@@ -4,6 +4,7 @@
 mod account;
 mod audit;
 mod bytes;
+mod carried;
 mod claim;
 mod history;
 mod item;
@@ -19,6 +20,7 @@ mod tests;
 
 pub use account::Account;
 pub use audit::{Presented, audit, audit_packed, log_lengths};
+pub use carried::{count_of_last_chunk, is_half_used_by_items};
 pub use claim::{Outcome, outcomes};
 pub use history::{Call, Event, is_history, is_history_by_calls};
 pub use item::{Head, Item, items};

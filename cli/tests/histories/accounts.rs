@@ -2,8 +2,8 @@
 //! calls and cuts alone, then the audit of what they left.
 
 use pahyndoi::model::{
-    Account, Call, Event, HMAC_LENGTH, Head, Item, Material, Set, State, is_history,
-    is_history_by_calls, plain_hmac,
+    Account, Call, Event, HMAC_LENGTH, Head, Item, Material, Set, State, count_of_last_chunk,
+    is_half_used_by_items, is_history, is_history_by_calls, plain_hmac,
 };
 
 use crate::answer::split;
@@ -23,17 +23,21 @@ pub const CUT_HALF_WAY: &str = "cuts half way through a chunk";
 pub const CUT_AGAIN: &str = "cuts while a chunk waits";
 pub const RESTARTED: &str = "accepted with restarts";
 pub const WAITING: &str = "refused with a chunk that waits";
+pub const STATE_LOST: &str = "state lost";
+pub const KEY_HELD: &str = "state with a held key";
 pub const STILL_ONE: &str = "altered lists that are histories";
 pub const NONE: &str = "altered lists that are none";
 
 /// What is counted.
-pub const COUNTED: [&str; 8] = [
+pub const COUNTED: [&str; 10] = [
     CUT_UNUSED,
     CUT_BETWEEN,
     CUT_HALF_WAY,
     CUT_AGAIN,
     RESTARTED,
     WAITING,
+    STATE_LOST,
+    KEY_HELD,
     STILL_ONE,
     NONE,
 ];
@@ -242,14 +246,40 @@ impl Recorded {
         }
     }
 
-    /// Fails where a call's answer, or a byte, is not the account's.
+    /// Fails where a call's answer, the state or a byte is not the account's.
     fn make(&mut self, event: Event, tally: &mut Tally) {
         match &event {
             Event::Cut => self.cut(tally),
             Event::Call(call) => self.call(call, tally),
         }
         assert_same_material(&self.device.material, &self.account.material());
+        let state = self.account.state(plain_hmac);
+        assert_eq!(self.device.state, state, "states: ours, account's");
+        tally.count(STATE_LOST, usize::from(self.account.is_state_lost()));
+        tally.count(KEY_HELD, usize::from(state.position.offset > 0));
+        self.assert_told_by_items();
         self.events.push(event);
+    }
+
+    /// The items alone say whether a chunk is half used, and the number of the
+    /// restart that is due.
+    fn assert_told_by_items(&self) {
+        let items = self.account.items();
+        let half_used = is_half_used_by_items(items, self.ratchet());
+        assert_eq!(
+            half_used,
+            self.account.is_half_used(),
+            "by items, account's"
+        );
+        let Some(last) = items.last() else {
+            return;
+        };
+        let count = count_of_last_chunk(items);
+        assert_eq!(count, last.head.position().offset + 1);
+        match self.account.waiting() {
+            0 => assert_eq!(count % self.ratchet(), self.account.position().offset),
+            waiting => assert_eq!(count, waiting, "by items, the one that waits"),
+        }
     }
 
     fn call(&mut self, call: &Call, tally: &mut Tally) {

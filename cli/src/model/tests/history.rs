@@ -122,6 +122,17 @@ fn assert_audit_of_untouched(start: &Material, account: &Account) {
     assert_eq!(refused, account.is_half_used());
 }
 
+/// The items alone say which chunk is half used and how many items it has.
+fn assert_told_by_items(account: &Account, ratchet: u32) {
+    let items = account.items();
+    let half_used = is_half_used_by_items(items, ratchet);
+    assert_eq!(half_used, account.is_half_used());
+    if half_used {
+        let count = account.waiting().max(account.position().offset);
+        assert_eq!(count_of_last_chunk(items), count);
+    }
+}
+
 #[test]
 fn calls_and_account_agree() {
     let mut random = Random(0x5ea1_ed10_65a5_1234);
@@ -150,6 +161,8 @@ fn calls_and_account_agree() {
             let expected = answer.map(|answer| (answer.refusal, answer.number));
             assert_eq!(perform(&mut device, event), expected);
             assert_eq!(device.material, account.material());
+            assert_eq!(device.state, account.state(plain_hmac));
+            assert_told_by_items(&account, ratchet);
         }
         restarts += count_restarts(&account);
         assert_audit_of_untouched(&start, &account);
