@@ -21,7 +21,7 @@ mod tests;
 pub use account::Account;
 pub use audit::{Presented, audit, audit_packed, log_lengths};
 pub use carried::{count_of_last_chunk, is_half_used_by_items};
-pub use claim::{Outcome, outcomes};
+pub use claim::{Outcome, Outcomes, outcomes};
 pub use history::{Call, Event, is_history, is_history_by_calls};
 pub use item::{Head, Item, items};
 pub use key::{Position, key_at, next_key, position, ratchet_head};

@@ -50,6 +50,11 @@ impl Presentation {
         answer
     }
 
+    /// Audits by both alone.
+    pub fn compare_audits(&self, random: &mut Random, tally: &mut Tally) -> u64 {
+        self.compare_at(random, tally, &[])
+    }
+
     /// The same with these bytes looked up.
     pub fn compare_at(&self, random: &mut Random, tally: &mut Tally, places: &[Place]) -> u64 {
         let log_lengths = log_lengths(&self.length_bytes);

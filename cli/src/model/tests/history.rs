@@ -116,10 +116,13 @@ fn assert_audit_of_untouched(start: &Material, account: &Account) {
         false => Answer::done(item_count),
     };
     assert_eq!(audit(plain_hmac, &presented), expected);
+    let expected = match account.is_half_used() {
+        true => vec![Outcome::Refused, Outcome::Intact],
+        false => vec![Outcome::Intact],
+    };
     let outcomes = outcomes(plain_hmac, account, &presented);
-    assert!(outcomes.contains(&Outcome::Kept));
-    let refused = outcomes.contains(&Outcome::Refused);
-    assert_eq!(refused, account.is_half_used());
+    assert_eq!(outcomes.of_first, expected);
+    assert_eq!(outcomes.of_all, expected);
 }
 
 /// The items alone say which chunk is half used and how many items it has.
@@ -336,12 +339,12 @@ fn which_lists_with_cuts_are_histories() {
 
 /// b after each item, N = 3, with a restart behind two items.
 #[test]
-fn items_held_after_a_compromise() {
+fn items_safe_after_a_compromise() {
     let mut account = Account::start(&material(1, 4, 3, 1000)).expect("unused");
-    let mut held = vec![account.held_count()];
+    let mut safe = vec![account.safe_count()];
     let mut tell = |account: &mut Account, call: Call| {
         assert_eq!(account.call(plain_hmac, &call).refusal, 0);
-        held.push(account.held_count());
+        safe.push(account.safe_count());
     };
     for _ in 0..5 {
         tell(&mut account, append(1));
@@ -351,5 +354,5 @@ fn items_held_after_a_compromise() {
     tell(&mut account, restart(2));
     tell(&mut account, Call::Close);
     tell(&mut account, append(1));
-    assert_eq!(held, [0, 1, 1, 1, 4, 4, 4, 6, 6, 9]);
+    assert_eq!(safe, [0, 1, 1, 1, 4, 4, 4, 6, 6, 9]);
 }

@@ -2,6 +2,7 @@
 //! of parameters and whole histories.
 
 mod audit;
+mod claim;
 mod history;
 mod lookup;
 mod planning;

@@ -337,7 +337,7 @@ fn an_intruder_drops_items_behind_b() {
         let (phase, data) = (1, data.to_vec());
         account.call(plain_hmac, &Call::Append { phase, data });
     }
-    assert_eq!(account.held_count(), 4);
+    assert_eq!(account.safe_count(), 4);
     for kept in 1..5 {
         let mut compromised = device.clone();
         assert_eq!(compromised.open(&[kept], 50 * u64::from(kept)), 0);
@@ -355,11 +355,13 @@ fn an_intruder_drops_items_behind_b() {
             seal_file: compromised.seal_file(),
         };
         let answer = audit(plain_hmac, &presented);
-        let (expected, outcome) = match kept {
-            4 => ((0, 7), Outcome::Kept),
-            _ => ((17, kept), Outcome::Refused),
+        let (expected, of_first, of_all) = match kept {
+            4 => ((0, 7), Outcome::Intact, Outcome::Dropped),
+            _ => ((17, kept), Outcome::Refused, Outcome::Refused),
         };
         assert_eq!((answer.refusal, answer.number), expected, "{kept} kept");
-        assert_eq!(outcomes(plain_hmac, &account, &presented), [outcome]);
+        let outcomes = outcomes(plain_hmac, &account, &presented);
+        assert_eq!(outcomes.of_first, [of_first]);
+        assert_eq!(outcomes.of_all, [of_all]);
     }
 }
