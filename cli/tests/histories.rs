@@ -8,6 +8,8 @@ mod accounts;
 mod answer;
 #[path = "histories/areas.rs"]
 mod areas;
+#[path = "histories/attempts.rs"]
+mod attempts;
 #[path = "histories/bits.rs"]
 mod bits;
 #[path = "histories/calls.rs"]
@@ -32,6 +34,8 @@ mod fenced;
 mod forgery;
 #[path = "histories/honest.rs"]
 mod honest;
+#[path = "histories/intruders.rs"]
+mod intruders;
 #[path = "histories/largest.rs"]
 mod largest;
 #[path = "histories/lent.rs"]
@@ -166,11 +170,36 @@ fn compromised_devices_keep_their_items_up_to_b() {
         let recorded = accounts::check_history(&mut case, tally);
         case.step = "compromised".to_string();
         compromises::check(&mut case.random, tally, &recorded);
+        intruders::check_tight(&mut case.random, tally, &recorded);
     }
     tallies.print();
     if run.whole {
         for counted in compromises::COUNTED {
             tallies.assert_more(counted, 30);
+        }
+        tallies.assert_more(intruders::TIGHT, run.cases / 2);
+    }
+}
+
+/// By who holds the keys that a device had left, and no others: at every place
+/// of its seal file, whatever these keys can seal.
+#[test]
+fn keys_left_drop_items_behind_b_and_forge_none() {
+    let run = Run::new(150);
+    let mut tallies = Tallies::default();
+    for mut case in run.each() {
+        let tally = tallies.of(case.own_set);
+        let recorded = accounts::check_short_history(&mut case, tally);
+        case.step = "made up".to_string();
+        attempts::check(&mut case.random, tally, &recorded);
+    }
+    tallies.print();
+    if run.whole {
+        for counted in intruders::COUNTED {
+            tallies.assert_more(counted, run.cases / 50);
+        }
+        for counted in attempts::COUNTED {
+            tallies.assert_more(counted, run.cases / 15);
         }
     }
 }

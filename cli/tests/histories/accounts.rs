@@ -69,6 +69,24 @@ pub fn check_history(case: &mut Case, tally: &mut Tally) -> Recorded {
     recorded
 }
 
+/// The same of a short history on a small card, mostly not brought to an end; now
+/// and then a refused open takes the state.
+pub fn check_short_history(case: &mut Case, tally: &mut Tally) -> Recorded {
+    let shape = small_shape(&mut case.random, case.own_set);
+    let mut recorded = Recorded::new(&mut case.random, &shape);
+    recorded.go_on(case, tally, 16);
+    match case.random.up_to(7) {
+        0 | 1 => recorded.finish(tally),
+        2 => {
+            let open = recorded.refused_open(&mut case.random);
+            recorded.make(Event::Call(open), tally);
+        }
+        _ => (),
+    }
+    recorded.check(&mut case.random, tally);
+    recorded
+}
+
 fn random_shape(random: &mut Random, own_set: Option<Set>) -> Shape {
     let most_keys = random.pick(&[1, 2, 3, 5, 12]);
     Shape {
@@ -80,6 +98,17 @@ fn random_shape(random: &mut Random, own_set: Option<Set>) -> Shape {
             false => random.between(1, most_keys),
         },
         seal_memory: random.pick(&[0, 500, 3000, 20_000]) + random.up_to(100),
+    }
+}
+
+/// Few chunks and keys, so that each can be tried.
+fn small_shape(random: &mut Random, own_set: Option<Set>) -> Shape {
+    Shape {
+        own_set,
+        phases: random.between(1, 2),
+        chunk_count: random.between(1, 6),
+        ratchet: random.pick(&[1, 2, 3, 3, 4, 5]),
+        seal_memory: 2000,
     }
 }
 
