@@ -110,12 +110,11 @@ impl<'a> Compromised<'a> {
         item == own && self.data(&own.head) == Some(self.account.data(&own.head))
     }
 
-    /// The number of the device's item in whose place another is forged. All
+    /// The number of the first item that is not the device's, if it is forged. All
     /// items before it are intact.
     fn forged(&self) -> Option<usize> {
         let item = self.items.get(self.intact)?;
-        let is_forged = self.intact < self.account.items().len()
-            && self.is_out_of_reach(item.head.position())
+        let is_forged = self.is_out_of_reach(item.head.position())
             && self.is_new(item)
             && self.has_right_tag(item);
         is_forged.then_some(self.intact)
@@ -164,13 +163,14 @@ impl<'a> Compromised<'a> {
         }
     }
 
-    /// The tag is that of the message under the key at the item's own place.
+    /// Whether the tag is that of the message under the key at the item's own
+    /// place, which is in a burned chunk.
     fn has_right_tag(&self, item: &Item) -> bool {
         let place = item.head.position();
         let Some(data) = self.data(&item.head) else {
             return false;
         };
-        if place.chunk >= self.header.chunk_count || place.offset >= self.header.ratchet {
+        if place.offset >= self.header.ratchet {
             return false;
         }
         let unused = chunk(self.presented.auditor_store, place.chunk);

@@ -27,9 +27,14 @@ const ENTRY_RENAMED: &str = "entry with another key than is due, refused";
 const RESTART_RENAMED: &str = "restart with another key than is due, refused";
 const UNCOVERED: &str = "restart behind dropped items, logs left, refused";
 const UNBURNED: &str = "restart behind dropped items, store left, refused";
+const OTHER_NUMBER: &str = "restart behind dropped items, another number, refused";
+const HELD_KEY_TAKEN: &str = "items under the held key, accepted";
+const HELD_KEY_REFUSED: &str = "items under the held key or one ahead, refused";
+const FIRST_KEY: &str = "items under the first key of a chunk";
+const LATER_KEY: &str = "items under a later key of a chunk, refused";
 
 /// What is counted.
-pub const COUNTED: [&str; 12] = [
+pub const COUNTED: [&str; 17] = [
     FILLER_TAKEN,
     ENTRY_TAKEN,
     RESTART_TAKEN,
@@ -42,6 +47,11 @@ pub const COUNTED: [&str; 12] = [
     RESTART_RENAMED,
     UNCOVERED,
     UNBURNED,
+    OTHER_NUMBER,
+    HELD_KEY_TAKEN,
+    HELD_KEY_REFUSED,
+    FIRST_KEY,
+    LATER_KEY,
 ];
 
 /// How many of the chunks left are tried, besides the last one.
@@ -159,6 +169,7 @@ impl Attempt<'_> {
         let is_dropped = self.leads_on(&head);
         let refusal = self.audit(random, tally, &presented, is_accepted, is_dropped);
         tally.count(self.counted(&head, refusal), 1);
+        tally.count(self.key_counted(refusal), 1);
         let store_left = &self.compromise.recorded.device.material.store;
         if presented.device_store != *store_left {
             presented.device_store.clone_from(store_left);
@@ -270,7 +281,23 @@ impl Attempt<'_> {
             (Head::Restart { .. }, 0) => RESTART_TAKEN,
             (Head::Restart { .. }, 21) => RESTART_RENAMED,
             (Head::Restart { .. }, 23) => UNCOVERED,
+            (Head::Restart { .. }, _) if self.has_other_number(head) => OTHER_NUMBER,
             (Head::Restart { .. }, _) => RESTART_REFUSED,
+        }
+    }
+
+    fn has_other_number(&self, head: &Head) -> bool {
+        let restart = restart_at(self.due);
+        self.is_behind_dropped() && head.position() == restart.position() && *head != restart
+    }
+
+    fn key_counted(&self, refusal: u32) -> &'static str {
+        let is_left = self.held.chunk >= self.compromise.burned();
+        match (is_left, self.held.offset, refusal) {
+            (false, _, 0) => HELD_KEY_TAKEN,
+            (false, ..) => HELD_KEY_REFUSED,
+            (true, 0, _) => FIRST_KEY,
+            (true, ..) => LATER_KEY,
         }
     }
 }

@@ -62,15 +62,19 @@ type Found = ((u32, u32), Vec<Outcome>, Vec<Outcome>);
 /// The audit's answer, then what is true of the first items and of all. So many
 /// chunks are burned, and the log has one byte for each entry.
 fn found(items: &[Item], burned: usize) -> Found {
-    let account = taken();
-    let (unused, left) = (unused(), account.material());
+    found_in(items, burned, &taken().material().log_memory)
+}
+
+/// The same with this log memory.
+fn found_in(items: &[Item], burned: usize, log_memory: &[u8]) -> Found {
+    let (account, unused) = (taken(), unused());
     let mut device_store = unused.store.clone();
     device_store[18..18 + 32 * burned].fill(0);
     let is_entry = |item: &&Item| item.head.area().is_some();
     let presented = Presented {
         device_store: &device_store,
         auditor_store: &unused.store,
-        log_memory: &left.log_memory,
+        log_memory,
         log_lengths: &[items.iter().filter(is_entry).count() as u32],
         seal_file: &items.iter().flat_map(Item::to_bytes).collect::<Vec<u8>>(),
     };
@@ -146,6 +150,42 @@ fn made_up_restarts_of_the_next_chunk() {
         let refused = ((17, kept as u32), vec![Refused], vec![Refused]);
         assert_eq!(behind(kept, number, 3), refused);
     }
+}
+
+/// The restart counts as one behind dropped items only where those before it are
+/// the device's.
+#[test]
+fn made_up_restarts_behind_items_that_are_not_intact() {
+    let mut items = taken().items()[..4].to_vec();
+    items.extend([restart(2, 1), filler(2, 1), filler(2, 2)].map(sealed));
+    let dropped = ((0, 7), vec![Intact], vec![Dropped]);
+    assert_eq!(found(&items, 3), dropped);
+    for number in 0..4 {
+        items[number].tag[0] ^= 1;
+        let refused = ((21, number as u32), vec![Refused], vec![Refused]);
+        assert_eq!(found(&items, 3), refused);
+        items[number].tag[0] ^= 1;
+    }
+}
+
+/// The data of an entry are changed in the logs, and nothing else.
+#[test]
+fn items_whose_data_are_changed() {
+    let mut items = taken().items().to_vec();
+    items.push(sealed(filler(1, 2)));
+    let mut log_memory = taken().material().log_memory;
+    for number in 0..5 {
+        log_memory[number] ^= 1;
+        let of_first = match number {
+            0..4 => vec![Refused],
+            _ => vec![Refused, Intact],
+        };
+        let expected = ((21, number as u32), of_first, vec![Refused]);
+        assert_eq!(found_in(&items, 2, &log_memory), expected);
+        log_memory[number] ^= 1;
+    }
+    let intact = ((0, 6), vec![Intact], vec![Intact]);
+    assert_eq!(found_in(&items, 2, &log_memory), intact);
 }
 
 /// By who has every key: below b in the places of the device's items and of a
