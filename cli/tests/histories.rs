@@ -24,6 +24,8 @@ mod damage;
 mod device;
 #[path = "histories/edges.rs"]
 mod edges;
+#[path = "histories/every_key.rs"]
+mod every_key;
 #[path = "histories/exchanges.rs"]
 mod exchanges;
 #[path = "common/fence.rs"]
@@ -171,10 +173,11 @@ fn compromised_devices_keep_their_items_up_to_b() {
         case.step = "compromised".to_string();
         compromises::check(&mut case.random, tally, &recorded);
         intruders::check_tight(&mut case.random, tally, &recorded);
+        every_key::check(&mut case.random, tally, &recorded);
     }
     tallies.print();
     if run.whole {
-        for counted in compromises::COUNTED {
+        for counted in compromises::COUNTED.iter().chain(&every_key::COUNTED) {
             tallies.assert_more(counted, 30);
         }
         tallies.assert_more(intruders::TIGHT, run.cases / 2);

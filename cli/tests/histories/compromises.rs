@@ -85,7 +85,7 @@ impl<'a> Compromise<'a> {
         self.account.items()
     }
 
-    fn heads(&self) -> Vec<Head> {
+    pub fn heads(&self) -> Vec<Head> {
         self.items().iter().map(|item| item.head).collect()
     }
 
@@ -111,11 +111,13 @@ impl<'a> Compromise<'a> {
 
     /// The log lengths up to so many items.
     pub fn lengths(&self, kept: usize) -> Vec<u32> {
+        self.lengths_of(&self.heads()[..kept])
+    }
+
+    /// The log lengths where these are all items.
+    pub fn lengths_of(&self, heads: &[Head]) -> Vec<u32> {
         let mut lengths = vec![0; usize::from(self.header.phases)];
-        for (phase, area) in self.items()[..kept]
-            .iter()
-            .filter_map(|item| item.head.area())
-        {
+        for (phase, area) in heads.iter().filter_map(Head::area) {
             lengths[usize::from(phase) - 1] = area.end as u32;
         }
         lengths
@@ -287,7 +289,7 @@ impl<'a> Compromise<'a> {
     }
 
     /// With every key of the store.
-    fn forger(&self, burned: u32, lengths: &[u32]) -> Forger {
+    pub fn forger(&self, burned: u32, lengths: &[u32]) -> Forger {
         let mut unused = self.recorded.start.clone();
         unused.log_memory = self.recorded.device.material.log_memory.clone();
         Forger::new(&unused, burned as usize, lengths, Rules::RIGHT)
@@ -326,20 +328,24 @@ impl<'a> Compromise<'a> {
 
     /// Other data for one of these, if an entry is among them, and all sealed anew.
     fn with_other_data(&self, random: &mut Random, among: &[Head]) -> Option<Presentation> {
+        let byte = self.random_byte(random, among)?;
+        let mut forger = self.forger(self.burned(), &self.account.log_lengths());
+        forger.change_log(byte, random.between(1, 255) as u8);
+        let heads = self.filled_up(self.heads());
+        let items = forger.seal_in_place(&heads);
+        Some(forger.present_cut(self.header.set(), items))
+    }
+
+    /// Where a byte of one of these stands in the log memory, if an entry is among
+    /// them.
+    pub fn random_byte(&self, random: &mut Random, among: &[Head]) -> Option<usize> {
         let areas: Vec<_> = among.iter().filter_map(Head::area).collect();
         if areas.is_empty() {
             return None;
         }
         let (phase, area) = areas[random.index(areas.len())].clone();
-        let mut forger = self.forger(self.burned(), &self.account.log_lengths());
         let byte = random.between(area.start as usize, area.end as usize - 1);
-        forger.change_log(
-            self.header.log_start(phase) + byte,
-            random.between(1, 255) as u8,
-        );
-        let heads = self.filled_up(self.heads());
-        let items = forger.seal_in_place(&heads);
-        Some(forger.present_cut(self.header.set(), items))
+        Some(self.header.log_start(phase) + byte)
     }
 
     /// Items dropped below b, and a restart behind them under the key of a

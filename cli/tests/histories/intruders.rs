@@ -172,27 +172,22 @@ impl Compromise<'_> {
     pub fn seal_anew(&self, random: &mut Random, tally: &mut Tally, kept: usize) {
         let dropped = self.items().iter().skip(kept).map(|item| item.head);
         let dropped: Vec<Head> = dropped.collect();
-        let entry = dropped.iter().find(|head| head.area().is_some());
         let keys = self.next_keys();
-        let Some(entry) = entry.filter(|_| kept >= self.safe() && !keys.is_empty()) else {
+        let Some(byte) = self.random_byte(random, &dropped) else {
             return;
         };
+        if kept < self.safe() || keys.is_empty() {
+            return;
+        }
         let lengths = self.account.log_lengths();
         let as_left = self.present(kept, &lengths, self.burned() + 1);
         let mut changed = as_left.clone();
-        self.change_data_of(random, &mut changed, entry);
+        changed.log_memory[byte] ^= 1;
         for (counted, mut presented) in [(SEALED_ANEW, as_left), (CHANGED, changed)] {
             self.put_restart(&mut presented, kept, &dropped, &keys);
             let answer = presented.compare_audits(random, tally);
             self.expect(&presented, answer, [&[Intact], &[Dropped]]);
             tally.count(counted, 1);
-        }
-    }
-
-    fn change_data_of(&self, random: &mut Random, presented: &mut Presentation, entry: &Head) {
-        if let Some((phase, area)) = entry.area() {
-            let byte = random.between(area.start as usize, area.end as usize - 1);
-            presented.log_memory[self.header.log_start(phase) + byte] ^= 1;
         }
     }
 }
