@@ -27,6 +27,8 @@ pub const STATE_LOST: &str = "state lost";
 pub const KEY_HELD: &str = "state with a held key";
 pub const STILL_ONE: &str = "altered lists that are histories";
 pub const NONE: &str = "altered lists that are none";
+const ENTRY_MISPLACED: &str = "entries out of place, refused by 17";
+const RESTART_MISPLACED: &str = "restarts out of place, refused by 17";
 
 /// What is counted.
 pub const COUNTED: [&str; 10] = [
@@ -41,6 +43,9 @@ pub const COUNTED: [&str; 10] = [
     STILL_ONE,
     NONE,
 ];
+
+/// What is counted behind histories.
+pub const MISPLACED: [&str; 2] = [ENTRY_MISPLACED, RESTART_MISPLACED];
 
 /// How many other lists are made of a history.
 const ALTERED: usize = 4;
@@ -275,9 +280,16 @@ impl Recorded {
         }
     }
 
-    /// Fails where a call's answer, the state or a byte is not the account's.
+    /// One event more of a history.
     fn make(&mut self, event: Event, tally: &mut Tally) {
-        match &event {
+        self.perform(&event, tally);
+        self.assert_told_by_items();
+        self.events.push(event);
+    }
+
+    /// Fails where a call's answer, the state or a byte is not the account's.
+    fn perform(&mut self, event: &Event, tally: &mut Tally) {
+        match event {
             Event::Cut => self.cut(tally),
             Event::Call(call) => self.call(call, tally),
         }
@@ -286,8 +298,6 @@ impl Recorded {
         assert_eq!(self.device.state, state, "states: ours, account's");
         tally.count(STATE_LOST, usize::from(self.account.is_state_lost()));
         tally.count(KEY_HELD, usize::from(state.position.offset > 0));
-        self.assert_told_by_items();
-        self.events.push(event);
     }
 
     /// The items alone say whether a chunk is half used, and the number of the
@@ -347,6 +357,52 @@ impl Recorded {
         }
     }
 
+    /// Goes on with any events; no open among them does its work but half way
+    /// through no chunk and with the lengths reached. The audit refuses what is
+    /// left by 17 just where one is out of place, at the item that the first of
+    /// these wrote.
+    pub fn go_on_anyhow(mut self, case: &mut Case, tally: &mut Tally) {
+        let mut misplaced = None;
+        if case.random.once_in(2) {
+            self.perform(&Event::Cut, tally);
+            let reopen = honest::reopen(&self.account);
+            self.perform(&Event::Call(reopen), tally);
+        }
+        for number in 0..case.random.up_to(20) {
+            let event = self.any_event(&mut case.random);
+            case.step = format!("behind the history, event {number}: {}", describe(&event));
+            if misplaced.is_none() && !self.account.allows(&event) {
+                misplaced = Some(self.account.items().len() as u32);
+                let is_entry = matches!(event, Event::Call(Call::Append { .. }));
+                tally.count(
+                    if is_entry {
+                        ENTRY_MISPLACED
+                    } else {
+                        RESTART_MISPLACED
+                    },
+                    1,
+                );
+            }
+            self.perform(&event, tally);
+        }
+        case.step = "behind the history, audit".to_string();
+        let answer = split(self.left().compare_audits(&mut case.random, tally));
+        match misplaced {
+            Some(item) => assert_eq!(answer, (17, item)),
+            None => assert_ne!(answer.0, 17),
+        }
+    }
+
+    /// Untouched, with the lengths reached.
+    fn left(&self) -> Presentation {
+        Presentation::left(
+            &self.start,
+            &self.device.material,
+            &self.account.log_lengths(),
+            self.account.seal_length(),
+        )
+    }
+
     /// The events with one more among them, one fewer or two exchanged.
     fn altered(&self, random: &mut Random) -> Vec<Event> {
         let mut events = self.events.clone();
@@ -365,13 +421,7 @@ impl Recorded {
     /// Untouched material is accepted with the true count, but for a chunk
     /// that is still half used.
     fn audit(&self, random: &mut Random, tally: &mut Tally) {
-        let presentation = Presentation::left(
-            &self.start,
-            &self.device.material,
-            &self.account.log_lengths(),
-            self.account.seal_length(),
-        );
-        let answer = presentation.compare(random, tally);
+        let answer = self.left().compare(random, tally);
         let expected = match self.account.is_half_used() {
             true => (22, 0),
             false => (0, self.account.items().len() as u32),
