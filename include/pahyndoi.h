@@ -424,10 +424,12 @@ uint64_t pahyndoi_close(pahyndoi_state *state,
  *  - an append where a restart is due (17);
  *  - at offset 0, behind a burned chunk, a restart where none is due, or with
  *    another number from 1 to N - 1 (17): restart right after an open, and only
- *    where step 3 says so;
- *  - an open with other lengths than those reached, and a call after it.
- * And material that is presented while a restart is due (22): a close in its
- * place writes nothing, for after an open the offset is 0. Restart, then close.
+ *    where step 3 says so.
+ * The audit refuses as well what is presented while a restart is due (22): a
+ * close in its place writes nothing, for after an open the offset is 0.
+ * Restart, then close. An open with other lengths than those reached is not
+ * refused for that either: open again, with the right ones, before anything is
+ * written. Of what is written without that nothing is said.
  *
  * What to plan for:
  *  - The keys left in the cut chunk, up to N - 1, are never used, and the
