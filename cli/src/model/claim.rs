@@ -121,13 +121,16 @@ impl<'a> Compromised<'a> {
     }
 
     /// Whether the key at this place is of a burned chunk and not held. In the
-    /// place of an item below b, one of the last burned chunk is its first.
+    /// place of an item below b, one of the last burned chunk is its first; from
+    /// b on it is the one that the device's item has.
     fn is_out_of_reach(&self, place: Position) -> bool {
         let burned = self.account.burned_count();
-        let is_below = self.intact < self.account.safe_count();
-        place.chunk < burned
-            && !self.account.is_held(place)
-            && (!is_below || place.chunk + 1 < burned || place.offset == 0)
+        let behind = self.intact.checked_sub(self.account.safe_count());
+        let is_due = match behind {
+            None => place.chunk + 1 < burned || place.offset == 0,
+            Some(behind) => place.chunk + 1 == burned && place.offset as usize == behind + 1,
+        };
+        place.chunk < burned && !self.account.is_held(place) && is_due
     }
 
     /// Whether the message of an item is none that the device used a key for.

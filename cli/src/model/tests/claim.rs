@@ -233,12 +233,13 @@ fn what_forging_takes() {
     assert_eq!(found(&items, 2), refused((21, 1)));
 }
 
-/// From b on any place of a burned chunk will do that is not held.
+/// From b on the place of the device's item, and no other.
 #[test]
 fn what_forging_takes_behind_b() {
     for (head, refusal, is_forged) in [
         (filler(1, 1), (22, 0), true),
-        (filler(0, 1), (17, 4), true),
+        (filler(0, 1), (17, 4), false),
+        (filler(1, 0), (17, 4), false),
         (filler(1, 2), (17, 4), false),
         (filler(2, 0), (17, 4), false),
     ] {
