@@ -10,6 +10,7 @@ use Rattle.planning.specs.Chunks.{roundedUp, chunksFor}
 use Rattle.planning.specs.Ratchet.{Planned}
 use Rattle.planning.specs.declared.Ratchet.{Ratchet}
 use Rattle.planning.specs.declared.Ratchet.the-variants.{Least, NoneLasts, Refused}
+use Rattle.planning.proofs.Plans.{is-least, nothing-lasts}
 use Rattle.planning.proofs.Quotients.{at-most}
 use Rattle.planning.proofs.Sums.{antitone}
 use Rattle.claims.specs.Account.{Call, Fed, Account, started, accountStep, accountFrom, answersFrom, NoneHalfUsed, AllowedBy, HistoryFrom}
@@ -65,12 +66,12 @@ module _ (f : Fed) (starts : Starts f) (calls : List Call) (history : History f 
 
     pub foretold : (x : Ratchet) → Planned (countsOf plan) (chunksLeft f (accountFrom f (started f) calls)) x → Foretold f calls plan x
     foretold (Least n) planned =
-        let least = planned .1 in
+        let least = is-least (countsOf plan) (chunksLeft f (accountFrom f (started f) calls)) n planned in
         let keys = begun f starts .store in (
           (λ more. lasting (omega (arith, least .lasts, antitone (countsOf plan) n (ratchet (f .store)) (least .low) (omega (arith, more))))),
           (λ less. spent (lt-of-not-le (least .least (ratchet (f .store)) (keys .ratchetLow) (omega (arith, less))))),
         )
     foretold NoneLasts planned =
         let keys = begun f starts .store in
-        spent (lt-of-not-le (planned .1 (ratchet (f .store)) (keys .ratchetLow) (keys .ratchetHigh)))
+        spent (lt-of-not-le (nothing-lasts (countsOf plan) (chunksLeft f (accountFrom f (started f) calls)) planned (ratchet (f .store)) (keys .ratchetLow) (keys .ratchetHigh)))
     foretold Refused planned = tt

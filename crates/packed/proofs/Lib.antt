@@ -1,3 +1,2 @@
 -- The laws that the functions' proofs cite.
 pub mod Packing
-pub mod Planning

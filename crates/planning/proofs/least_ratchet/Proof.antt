@@ -18,7 +18,8 @@ halved-requires c κs = sym (c .before .bad-plan .ensures) ∙ c .if1 .left
 returns-2 : tie.Need-returns-2
 returns-2 c =
     let fits = sym (c .before .before .before .bad-plan .ensures) ∙ c .before .before .if1 .left in
-    none-lasts _ _ fits _ (c .before .halved .ensures) (omega (arith, c .if2 .taken))
+    let said = none-lasts _ _ fits _ (c .before .halved .ensures) (omega (arith, c .if2 .taken)) in
+    record { refusal = said .refusal; number = said .number; none = said .none }
 
 returns-3 : tie.Need-returns-3
 returns-3 c =

@@ -1,4 +1,5 @@
 -- `packed::plans::least_ratchet_packed` meets its contract: its word is that of the answer.
+use native.Mathlib.Omega.{arith}
 use borrow.Author.Needs.{needs}
 use Rattle.packed.proofs.plans.least_ratchet_packed.Statement.{statement}
 use Rattle.packed.proofs.plans.least_ratchet_packed.Tie as tie
@@ -10,7 +11,9 @@ ratchet-code-requires : tie.Need-ratchet-code-requires
 ratchet-code-requires c κs = search needs
 
 returns : tie.Need-returns
-returns c = record { answer = c .before .least-ratchet .result; planned = c .before .least-ratchet .ensures; word = c .ratchet-code .ensures }
+returns c =
+    let said = c .before .least-ratchet .ensures in
+    omega (arith, c .ratchet-code .ensures, said .refusal, said .number)
 
 pub least-ratchet-packed-spec : {M : Type 1} → statement M
 least-ratchet-packed-spec = tie.close (tie.spec least-ratchet-requires ratchet-code-requires returns)
