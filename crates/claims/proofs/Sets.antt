@@ -13,10 +13,10 @@ use Rattle.claims.specs.Claim.{Starts}
 use Rattle.claims.specs.Sets.{NoneZero, EveryStart, CommonStart}
 
 -- so does any store with these fields and chunks
-written-starts : (st : List ℕ) (p c n header tag limit capacity : ℕ) (chunks logs seal : List ℕ) → StoreWith st p c n header tag limit capacity chunks
+written-starts : (st id : List ℕ) (p c n header tag limit capacity : ℕ) (chunks logs seal : List ℕ) → StoreWith st id p c n header tag limit capacity chunks
     → NoneZero c chunks → length logs ≡ capacity * p → Starts (record { store = st; logs = logs; seal = seal })
 unfolding badLogs
-written-starts st p c n header tag limit capacity chunks logs seal it keys long =
+written-starts st id p c n header tag limit capacity chunks logs seal it keys long =
     record {
       store = key-store st .1 (it .store);
       logs = not-differ _ _ .1 (long ∙ sym (ap₂ _*_ (it .logCapacity) (it .phases)));
@@ -25,8 +25,8 @@ written-starts st p c n header tag limit capacity chunks logs seal it keys long 
 
 pub every-start : EveryStart
 every-start id p c n tag limit capacity chunks logs seal may set =
-    written-starts (ownSetStore id p c n tag limit capacity chunks) p c n 27 tag limit capacity chunks logs seal (every-set id p c n tag limit capacity chunks may set)
+    written-starts (ownSetStore id p c n tag limit capacity chunks) id p c n 27 tag limit capacity chunks logs seal (every-set id p c n tag limit capacity chunks may set)
 
 pub common-start : CommonStart
 common-start id p c n chunks logs seal may =
-    written-starts (commonStore id p c n chunks) p c n 18 32 512 8192 chunks logs seal (common-set id p c n chunks may)
+    written-starts (commonStore id p c n chunks) id p c n 18 32 512 8192 chunks logs seal (common-set id p c n chunks may)
