@@ -32,6 +32,10 @@ pub fn is_help(argument: &OsString) -> bool {
     argument == "--help" || argument == "-h"
 }
 
+pub fn is_version(argument: &OsString) -> bool {
+    argument == "--version" || argument == "-V"
+}
+
 /// Whether help is asked for before the flags end.
 pub fn ask_for_help(arguments: &[OsString]) -> bool {
     let mut flags = arguments.iter().take_while(|argument| *argument != "--");

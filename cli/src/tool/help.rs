@@ -13,6 +13,10 @@ Commands:
   pack    make a key store of header and key bytes
   plan    find what a card needs before it is packed
 
+Flags in the place of a command:
+  --help, -h      print this
+  --version, -V   print the tool's name and version
+
 'pahyndoi COMMAND --help' says more about a command.
 
 Exit status: 0 done or accepted, 1 refused, damaged or a card that does not

@@ -31,6 +31,7 @@ mod verdict;
 use std::ffi::OsString;
 use std::io::Write;
 
+use arguments::is_version;
 use commands::{Command, Commands};
 use failure::Failure;
 
@@ -57,7 +58,11 @@ const COMMANDS: Commands = Commands {
     ],
 };
 
-/// Runs the command that the arguments name.
+/// Runs the command that the arguments name, or prints the version.
 pub fn run(arguments: &[OsString], out: &mut dyn Write) -> Result<Status, Failure> {
+    if arguments.first().is_some_and(is_version) {
+        writeln!(out, "pahyndoi {}", env!("CARGO_PKG_VERSION"))?;
+        return Ok(Status::Done);
+    }
     COMMANDS.run(arguments, out)
 }

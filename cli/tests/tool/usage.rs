@@ -29,6 +29,27 @@ fn help_of_each_command_shows_its_usage() {
 }
 
 #[test]
+fn version_of_the_tool() {
+    for flag in ["--version", "-V"] {
+        let expected = format!("pahyndoi {}\n", env!("CARGO_PKG_VERSION"));
+        assert_eq!(run(&[flag]).ended(0), expected);
+    }
+    let text = run(&["--help"]).ended(0);
+    assert!(text.contains("\n  --version, -V  "), "{text}");
+}
+
+/// It is a flag of the tool, and of no command.
+#[test]
+fn version_of_a_command() {
+    let error = run(&["audit", "--version"]).failed();
+    let expected = "pahyndoi: unknown flag '--version'\n";
+    assert!(error.starts_with(expected), "{error}");
+    let error = run(&["plan", "-V"]).failed();
+    let expected = "pahyndoi: unknown command 'plan -V'\n";
+    assert!(error.starts_with(expected), "{error}");
+}
+
+#[test]
 fn help_of_pack_says_who_makes_keys() {
     let text = run(&["pack", "--help"]).ended(0);
     assert!(text.contains("No keys are made here."), "{text}");
