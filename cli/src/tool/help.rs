@@ -12,12 +12,11 @@ Commands:
   dump    list the items of a seal file, or what a key store's header says
   pack    make a key store of header and key bytes
   plan    find what a card needs before it is packed
+  help    say more about a command, as 'pahyndoi COMMAND --help' does
 
 Flags in the place of a command:
   --help, -h      print this
   --version, -V   print the tool's name and version
-
-'pahyndoi COMMAND --help' says more about a command.
 
 Exit status: 0 done or accepted, 1 refused, damaged or a card that does not
 last, 2 bad usage or a file that can't be read or written.

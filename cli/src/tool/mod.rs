@@ -55,6 +55,7 @@ const COMMANDS: Commands = Commands {
         ("dump", Command::Alone(dump::run, help::DUMP)),
         ("pack", Command::Alone(pack::run, help::PACK)),
         ("plan", Command::Group(plan::COMMANDS)),
+        ("help", Command::Help),
     ],
 };
 

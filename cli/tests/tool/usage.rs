@@ -28,6 +28,53 @@ fn help_of_each_command_shows_its_usage() {
     }
 }
 
+/// `help` and names print what the names and `--help` print.
+#[test]
+fn help_is_a_command() {
+    let asked: [&[&str]; 9] = [
+        &[],
+        &["demo"],
+        &["audit"],
+        &["item"],
+        &["dump"],
+        &["pack"],
+        &["plan"],
+        &["plan", "ratchet"],
+        &["help"],
+    ];
+    for names in asked {
+        let expected = run(&[names, &["--help"]].concat()).ended(0);
+        for more in [&[][..], &["--help"], &["-h"]] {
+            let text = run(&[&["help"], names, more].concat()).ended(0);
+            assert_eq!(text, expected, "{names:?}");
+        }
+    }
+    let text = run(&["help"]).ended(0);
+    assert!(text.contains("\n  help  "), "{text}");
+}
+
+#[test]
+fn help_of_what_is_no_command() {
+    let wrong: [(&[&str], &str, &str); 7] = [
+        (&["adit"], "unknown command 'adit'", ""),
+        (&["adit", "--help"], "unknown command 'adit'", ""),
+        (&["--fast"], "unknown command '--fast'", ""),
+        (&["--", "audit"], "unknown command '--'", ""),
+        (
+            &["plan", "rachet"],
+            "unknown command 'plan rachet'",
+            "plan ",
+        ),
+        (&["audit", "--"], "'--' is too much", ""),
+        (&["plan", "ratchet", "8"], "'8' is too much", "plan "),
+    ];
+    for (names, reason, of) in wrong {
+        let error = run(&[&["help"], names].concat()).failed();
+        let expected = format!("pahyndoi: {reason}\nTry 'pahyndoi {of}--help'.\n");
+        assert_eq!(error, expected);
+    }
+}
+
 #[test]
 fn version_of_the_tool() {
     for flag in ["--version", "-V"] {
