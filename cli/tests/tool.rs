@@ -16,6 +16,8 @@ mod folder;
 mod item;
 #[path = "tool/material.rs"]
 mod material;
+#[path = "tool/numbers.rs"]
+mod numbers;
 #[path = "tool/pack.rs"]
 mod pack;
 #[path = "tool/plan.rs"]

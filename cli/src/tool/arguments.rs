@@ -7,7 +7,7 @@ use std::os::unix::ffi::OsStrExt;
 use std::path::{Path, PathBuf};
 
 use super::failure::Failure;
-use super::text::shown;
+use super::text::{grouped, shown};
 
 /// What a command understands.
 pub struct Syntax {
@@ -118,9 +118,13 @@ fn split(argument: &OsStr) -> (&str, Option<&OsStr>) {
     (std::str::from_utf8(name).unwrap_or_default(), value)
 }
 
+/// A dash before a digit is the sign of a number: the error about it then says
+/// which numbers are wanted.
 fn is_flag(argument: impl AsRef<OsStr>) -> bool {
-    let bytes = argument.as_ref().as_bytes();
-    bytes.len() > 1 && bytes[0] == b'-'
+    match argument.as_ref().as_bytes() {
+        [b'-', second, ..] => !second.is_ascii_digit(),
+        _ => false,
+    }
 }
 
 fn known(names: &[&'static str], name: &str) -> Option<&'static str> {
@@ -148,12 +152,6 @@ impl Arguments {
 
     pub fn required_path(&self, flag: &str) -> Result<&Path, Failure> {
         self.required(flag).map(Path::new)
-    }
-
-    /// The flag's text; every value that is no path is ASCII.
-    pub fn required_text(&self, flag: &str) -> Result<&str, Failure> {
-        let value = self.required(flag)?;
-        value.to_str().ok_or_else(|| self.bad_value(flag, value))
     }
 
     /// The flag's decimal number, if it is in the range.
@@ -192,18 +190,26 @@ impl Arguments {
             .filter(|number| range.contains(number))
             .ok_or_else(|| {
                 let (low, high) = range.into_inner();
-                let value = shown(value);
-                self.wrong(format!("{name} {value}: a number from {low} to {high}"))
+                let [low, high] = [low, high].map(|end| grouped(end.into()));
+                self.unlike(name, &format!("a number from {low} to {high}"), value)
             })
     }
 
-    fn required(&self, flag: &str) -> Result<&OsString, Failure> {
-        let value = self.values.get(flag);
+    pub fn required(&self, flag: &str) -> Result<&OsStr, Failure> {
+        let value = self.values.get(flag).map(OsString::as_os_str);
         value.ok_or_else(|| self.wrong(format!("{flag} is missing")))
     }
 
-    fn bad_value(&self, flag: &str, value: &OsStr) -> Failure {
-        self.wrong(format!("{flag} {}: not understood", shown(value)))
+    /// That the value given for the flag is not what it wants.
+    pub fn unwanted(&self, flag: &str, wanted: &str) -> Failure {
+        match self.required(flag) {
+            Ok(value) => self.unlike(flag, wanted, value),
+            Err(missing) => missing,
+        }
+    }
+
+    fn unlike(&self, name: &str, wanted: &str, value: &OsStr) -> Failure {
+        self.wrong(format!("{name} wants {wanted}, not '{}'", shown(value)))
     }
 
     pub fn wrong(&self, message: String) -> Failure {

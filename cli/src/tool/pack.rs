@@ -80,21 +80,24 @@ fn own_set(arguments: &Arguments) -> Result<Option<Set>, Failure> {
     };
     match set.log_takes_data() {
         true => Ok(Some(set)),
-        false => Err(arguments.wrong(format!(
-            "--log-capacity {}: a number not below that of --data-limit, {}",
-            set.log_capacity, set.data_limit
-        ))),
+        false => {
+            let [low, high] =
+                [set.data_limit, *LOG_CAPACITIES.end()].map(|end| grouped(end.into()));
+            let wanted = format!("a number from {low}, the --data-limit, to {high}");
+            Err(arguments.unwanted("--log-capacity", &wanted))
+        }
     }
 }
 
 /// The 8 bytes of 16 hexadecimal digits.
 fn id(arguments: &Arguments) -> Result<[u8; 8], Failure> {
-    let text = arguments.required_text("--id")?;
+    let wanted = "16 hexadecimal digits, for 8 bytes, such as 736d616c6c203037";
+    let text = arguments.required("--id")?.to_str().unwrap_or_default();
     let digits = text.len() == 16 && text.bytes().all(|byte| byte.is_ascii_hexdigit());
     let number = u64::from_str_radix(text, 16).ok().filter(|_| digits);
     match number {
         Some(number) => Ok(number.to_be_bytes()),
-        None => Err(arguments.wrong(format!("--id {}: 16 hexadecimal digits", shown(text)))),
+        None => Err(arguments.unwanted("--id", wanted)),
     }
 }
 

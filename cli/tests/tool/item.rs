@@ -224,31 +224,17 @@ fn flags_override_the_folder() {
 
 #[test]
 fn wrong_arguments() {
-    let wrong: [(&[&str], &str); 17] = [
+    let wrong: [(&[&str], &str); 12] = [
         (&["--offset=0"], "--phase is missing"),
         (&["--phase=1"], "--offset is missing"),
         (&["--phase"], "--phase needs a value"),
         (&["--phase="], "--phase needs a value"),
         (&["--phase", "--offset=0"], "--phase needs a value"),
+        (&["--phase", "-x"], "--phase needs a value"),
         (&["--phase=1", "--phase=1"], "--phase is given twice"),
         (&["--offset=1", "--offset=2"], "--offset is given twice"),
-        (&["--phase=256"], "--phase 256: a number from 0 to 255"),
-        (&["--phase=one"], "--phase one: a number from 0 to 255"),
-        (&["--phase=-1"], "--phase -1: a number from 0 to 255"),
-        (&["--phase=+1"], "--phase +1: a number from 0 to 255"),
-        (
-            &["--phase=1", "--offset=4294967296"],
-            "--offset 4294967296: a number from 0 to 4294967295",
-        ),
-        (
-            &["--phase=1", "--offset=1,024"],
-            "--offset 1,024: a number from 0 to 4294967295",
-        ),
-        (
-            &["--phase=1", "--offset=\u{7}"],
-            "--offset \\u{7}: a number from 0 to 4294967295",
-        ),
         (&["--no-picture"], "unknown flag '--no-picture'"),
+        (&["-p1"], "unknown flag '-p1'"),
         (&["--json=yes"], "unknown flag '--json=yes'"),
         (&["b"], "'b' is too much"),
     ];

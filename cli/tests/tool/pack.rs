@@ -202,16 +202,21 @@ fn store_is_its_owners_alone() {
 #[test]
 fn values_out_of_range() {
     let folder = folder("range", &[7; 128]);
+    let id = "16 hexadecimal digits, for 8 bytes, such as 736d616c6c203037";
     let wrong = [
-        ("--id", "00112233445566", "16 hexadecimal digits"),
-        ("--id", "001122334455667g", "16 hexadecimal digits"),
-        ("--id", "+011223344556677", "16 hexadecimal digits"),
+        ("--id", "00112233445566", id),
+        ("--id", "001122334455667g", id),
+        ("--id", "+011223344556677", id),
+        ("--id", "-011223344556677", id),
+        ("--id", "junction7", id),
+        ("--id", "\u{e9}\u{e9}112233445566", id),
         ("--phases", "0", "a number from 1 to 8"),
+        ("--phases", "-1", "a number from 1 to 8"),
         ("--phases", "9", "a number from 1 to 8"),
         ("--phases", "+3", "a number from 1 to 8"),
         ("--phases", "three", "a number from 1 to 8"),
-        ("--chunks", "0", "a number from 1 to 1024"),
-        ("--chunks", "1025", "a number from 1 to 1024"),
+        ("--chunks", "0", "a number from 1 to 1,024"),
+        ("--chunks", "1025", "a number from 1 to 1,024"),
         ("--ratchet", "0", "a number from 1 to 256"),
         ("--ratchet", "257", "a number from 1 to 256"),
         (
@@ -222,7 +227,7 @@ fn values_out_of_range() {
     ];
     for (flag, value, reason) in wrong {
         let error = pack(&folder, (flag, value), &[]).failed();
-        let expected = format!("pahyndoi: {flag} {value}: {reason}\n");
+        let expected = format!("pahyndoi: {flag} wants {reason}, not '{value}'\n");
         assert!(error.starts_with(&expected), "{error}");
         assert!(error.ends_with("Try 'pahyndoi pack --help'.\n"), "{error}");
     }
@@ -232,50 +237,54 @@ fn values_out_of_range() {
 #[test]
 fn sets_out_of_range() {
     let folder = folder("set-range", &[7; 128]);
-    let wrong: [(&[&str], &str); 13] = [
+    let wrong: [(&[&str], &str); 14] = [
         (
             &["--tag-length=15"],
-            "--tag-length 15: a number from 16 to 32",
+            "--tag-length wants a number from 16 to 32, not '15'",
         ),
         (
             &["--tag-length=33"],
-            "--tag-length 33: a number from 16 to 32",
+            "--tag-length wants a number from 16 to 32, not '33'",
         ),
         (
             &["--tag-length=272"],
-            "--tag-length 272: a number from 16 to 32",
+            "--tag-length wants a number from 16 to 32, not '272'",
         ),
         (
             &["--tag-length=+16"],
-            "--tag-length +16: a number from 16 to 32",
+            "--tag-length wants a number from 16 to 32, not '+16'",
         ),
         (
             &["--data-limit=0"],
-            "--data-limit 0: a number from 1 to 4096",
+            "--data-limit wants a number from 1 to 4,096, not '0'",
         ),
         (
             &["--data-limit=4097"],
-            "--data-limit 4097: a number from 1 to 4096",
+            "--data-limit wants a number from 1 to 4,096, not '4097'",
         ),
         (
             &["--data-limit=all"],
-            "--data-limit all: a number from 1 to 4096",
+            "--data-limit wants a number from 1 to 4,096, not 'all'",
         ),
         (
             &["--log-capacity=511"],
-            "--log-capacity 511: a number from 512 to 65536",
+            "--log-capacity wants a number from 512 to 65,536, not '511'",
         ),
         (
             &["--log-capacity=65537"],
-            "--log-capacity 65537: a number from 512 to 65536",
+            "--log-capacity wants a number from 512 to 65,536, not '65537'",
         ),
         (
             &["--log-capacity=8,192"],
-            "--log-capacity 8,192: a number from 512 to 65536",
+            "--log-capacity wants a number from 512 to 65,536, not '8,192'",
         ),
         (
             &["--log-capacity=512", "--data-limit=513"],
-            "--log-capacity 512: a number not below that of --data-limit, 513",
+            "--log-capacity wants a number from 513, the --data-limit, to 65,536, not '512'",
+        ),
+        (
+            &["--data-limit=4096", "--log-capacity=04095"],
+            "--log-capacity wants a number from 4,096, the --data-limit, to 65,536, not '04095'",
         ),
         (&["--data-limit"], "--data-limit needs a value"),
         (

@@ -5,8 +5,9 @@ use crate::run::{assert_narrow, run};
 
 #[test]
 fn wrong_arguments() {
-    let number = "a number from 0 to 4294967295";
-    let wrong: [(&[&str], String); 16] = [
+    let wants =
+        |name, value| format!("{name} wants a number from 0 to 4,294,967,295, not '{value}'");
+    let wrong: [(&[&str], String); 19] = [
         (&[], "--chunks is missing".into()),
         (&["36"], "--chunks is missing".into()),
         (&["--chunks"], "--chunks needs a value".into()),
@@ -16,21 +17,18 @@ fn wrong_arguments() {
             &["--chunks=1", "--chunks=1"],
             "--chunks is given twice".into(),
         ),
-        (&["--chunks=ten"], format!("--chunks ten: {number}")),
-        (&["--chunks=+1"], format!("--chunks +1: {number}")),
-        (
-            &["--chunks=4294967296"],
-            format!("--chunks 4294967296: {number}"),
-        ),
-        (&["--chunks=8", "36", "x"], format!("COUNT x: {number}")),
-        (&["--chunks=8", "1,024"], format!("COUNT 1,024: {number}")),
-        (
-            &["--chunks=8", "4294967296"],
-            format!("COUNT 4294967296: {number}"),
-        ),
-        (&["--chunks=8", "--", "-h"], format!("COUNT -h: {number}")),
+        (&["--chunks=ten"], wants("--chunks", "ten")),
+        (&["--chunks=+1"], wants("--chunks", "+1")),
+        (&["--chunks", "-1"], wants("--chunks", "-1")),
+        (&["--chunks=4294967296"], wants("--chunks", "4294967296")),
+        (&["--chunks=8", "36", "x"], wants("COUNT", "x")),
+        (&["--chunks=8", "1,024"], wants("COUNT", "1,024")),
+        (&["--chunks=8", "4294967296"], wants("COUNT", "4294967296")),
+        (&["--chunks=8", "-1"], wants("COUNT", "-1")),
+        (&["-36", "--chunks=8"], wants("COUNT", "-36")),
+        (&["--chunks=8", "--", "-h"], wants("COUNT", "-h")),
         (&["--chunks=8", ""], "an argument is empty".into()),
-        (&["--chunks=8", "-1"], "unknown flag '-1'".into()),
+        (&["--chunks=8", "-x1"], "unknown flag '-x1'".into()),
         (
             &["--chunks=8", "--json=yes"],
             "unknown flag '--json=yes'".into(),
@@ -51,7 +49,7 @@ fn counts_need_not_be_utf_8() {
         let arguments = ["plan", "ratchet", "--chunks=8"].map(OsStr::new);
         let known = if odd.len() > 1 { 2 } else { 3 };
         let error = run(&[&arguments[..known], &[OsStr::from_bytes(odd)]].concat()).failed();
-        assert!(error.contains(": a number from 0 to"), "{error}");
+        assert!(error.contains(" wants a number from 0 to"), "{error}");
     }
 }
 

@@ -174,6 +174,8 @@ fn arguments_need_not_be_utf_8() {
     let error = run(&[OsStr::new("audit"), OsStr::from_bytes(b"--seal=\xff")]).failed();
     let missing = "--device, --auditor, --logs, --lengths\n";
     assert!(error.contains(missing), "{error}");
+    let error = run(&[OsStr::new("pack"), OsStr::from_bytes(b"--id=\xff")]).failed();
+    assert!(error.starts_with("pahyndoi: --id wants 16 "), "{error}");
 }
 
 /// A name may hold what would clear a screen or forge a line of output.
