@@ -131,10 +131,12 @@ fn known(names: &[&'static str], name: &str) -> Option<&'static str> {
     names.iter().find(|known| **known == name).copied()
 }
 
-/// A number of digits alone, with no sign.
+/// A number of digits alone, with no sign, or as the tool prints it, with commas.
 fn decimal(text: &str) -> Option<u32> {
-    let digits = text.bytes().all(|byte| byte.is_ascii_digit());
-    text.parse().ok().filter(|_| digits)
+    let digits = text.replace(',', "");
+    let number: u32 = digits.parse().ok()?;
+    let is_plain = text.bytes().all(|byte| byte.is_ascii_digit());
+    (is_plain || text == grouped(number.into())).then_some(number)
 }
 
 impl Arguments {

@@ -275,16 +275,16 @@ fn sets_out_of_range() {
             "--log-capacity wants a number from 512 to 65,536, not '65537'",
         ),
         (
-            &["--log-capacity=8,192"],
-            "--log-capacity wants a number from 512 to 65,536, not '8,192'",
+            &["--log-capacity=81,92"],
+            "--log-capacity wants a number from 512 to 65,536, not '81,92'",
         ),
         (
             &["--log-capacity=512", "--data-limit=513"],
             "--log-capacity wants a number from 513, the --data-limit, to 65,536, not '512'",
         ),
         (
-            &["--data-limit=4096", "--log-capacity=04095"],
-            "--log-capacity wants a number from 4,096, the --data-limit, to 65,536, not '04095'",
+            &["--data-limit=4,096", "--log-capacity=4,095"],
+            "--log-capacity wants a number from 4,096, the --data-limit, to 65,536, not '4,095'",
         ),
         (&["--data-limit"], "--data-limit needs a value"),
         (

@@ -22,7 +22,7 @@ fn wrong_arguments() {
         (&["--chunks", "-1"], wants("--chunks", "-1")),
         (&["--chunks=4294967296"], wants("--chunks", "4294967296")),
         (&["--chunks=8", "36", "x"], wants("COUNT", "x")),
-        (&["--chunks=8", "1,024"], wants("COUNT", "1,024")),
+        (&["--chunks=8", "1,0240"], wants("COUNT", "1,0240")),
         (&["--chunks=8", "4294967296"], wants("COUNT", "4294967296")),
         (&["--chunks=8", "-1"], wants("COUNT", "-1")),
         (&["-36", "--chunks=8"], wants("COUNT", "-36")),
