@@ -1,7 +1,7 @@
 //! `pahyndoi demo`.
 
 use crate::folder::Folder;
-use crate::run::{assert_narrow, run};
+use crate::run::{assert_narrow, run, run_by};
 
 const EXPECTED: &str = include_str!("../data/demo.txt");
 
@@ -47,9 +47,8 @@ fn made_up_cuts() {
 fn existing_files_are_left_alone() {
     let folder = Folder::new("demo/existing");
     folder.write("seal.bin", b"mine");
-    let run = run(&["demo", "--out", folder.whole()]);
-    assert_eq!(run.status, Some(2));
-    assert!(run.error.contains("seal.bin: is there already"), "{run:?}");
+    let error = run(&["demo", "--out", folder.whole()]).failed();
+    assert!(error.contains("seal.bin: is there already"), "{error}");
     assert_eq!(folder.read("seal.bin"), b"mine");
     assert!(!std::fs::exists(folder.path("device.store")).unwrap());
 }
@@ -58,10 +57,18 @@ fn existing_files_are_left_alone() {
 fn file_in_the_place_of_the_folder() {
     let folder = Folder::new("demo/file");
     let place = folder.write("file", b"mine");
-    let run = run(&["demo", "--out", &place]);
-    assert_eq!(run.status, Some(2));
+    let error = run(&["demo", "--out", &place]).failed();
     let expected = format!("pahyndoi: {place}: cannot make this folder: ");
-    assert!(run.error.starts_with(&expected), "{run:?}");
+    assert!(error.starts_with(&expected), "{error}");
+}
+
+/// Where files can't grow, as on a full disk, there is no story either.
+#[test]
+fn material_that_cannot_be_written() {
+    let folder = Folder::new("demo/short");
+    let script = "trap '' XFSZ; ulimit -f 0; exec \"$@\"";
+    let error = run_by(script, &["demo", "--out", folder.whole()]).failed();
+    assert!(error.contains("device.store: cannot write it: "), "{error}");
 }
 
 /// A link that leads nowhere is there too: no file is written beside it.
@@ -69,8 +76,7 @@ fn file_in_the_place_of_the_folder() {
 fn existing_links_are_left_alone() {
     let folder = Folder::new("demo/link");
     std::os::unix::fs::symlink("nowhere", folder.path("seal.bin")).unwrap();
-    let run = run(&["demo", "--out", folder.whole()]);
-    assert_eq!(run.status, Some(2));
-    assert!(run.error.contains("seal.bin: is there already"), "{run:?}");
+    let error = run(&["demo", "--out", folder.whole()]).failed();
+    assert!(error.contains("seal.bin: is there already"), "{error}");
     assert!(!std::fs::exists(folder.path("device.store")).unwrap());
 }

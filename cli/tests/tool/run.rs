@@ -1,7 +1,7 @@
 //! One run of the tool.
 
 use std::ffi::OsStr;
-use std::process::{Command, Stdio};
+use std::process::{Command, Output, Stdio};
 
 /// What a run printed and its exit status.
 #[derive(Debug)]
@@ -11,18 +11,34 @@ pub struct Run {
     pub status: Option<i32>,
 }
 
+const TOOL: &str = env!("CARGO_BIN_EXE_pahyndoi");
+
 pub fn command<S: AsRef<OsStr>>(arguments: &[S]) -> Command {
-    let mut command = Command::new(env!("CARGO_BIN_EXE_pahyndoi"));
+    let mut command = Command::new(TOOL);
     command.args(arguments).stdin(Stdio::null());
     command
 }
 
 pub fn run<S: AsRef<OsStr>>(arguments: &[S]) -> Run {
-    let output = command(arguments).output().expect("the tool runs");
-    Run {
-        out: String::from_utf8(output.stdout).expect("UTF-8"),
-        error: String::from_utf8(output.stderr).expect("UTF-8"),
-        status: output.status.code(),
+    command(arguments).output().expect("the tool runs").into()
+}
+
+/// A run that a shell starts by this script, in which "$@" is the tool and its
+/// arguments.
+pub fn run_by<S: AsRef<OsStr>>(script: &str, arguments: &[S]) -> Run {
+    let mut shell = Command::new("sh");
+    shell.args(["-c", script, "sh", TOOL]).args(arguments);
+    let output = shell.stdin(Stdio::null()).output();
+    output.expect("a shell runs").into()
+}
+
+impl From<Output> for Run {
+    fn from(output: Output) -> Run {
+        Run {
+            out: String::from_utf8(output.stdout).expect("UTF-8"),
+            error: String::from_utf8(output.stderr).expect("UTF-8"),
+            status: output.status.code(),
+        }
     }
 }
 

@@ -35,8 +35,20 @@ j. passes: a copy of the store from noon shows chunks that the controller has \
 burned since, and the seals rest on nobody having those. The count alone tells \
 it from the evening's.";
 
+/// What is printed waits for the files: where they fail, nothing is.
 pub fn run(arguments: &[OsString], out: &mut dyn Write) -> Result<Status, Failure> {
     let arguments = SYNTAX.read(arguments)?;
+    let mut text = Vec::new();
+    let evening = story(&mut text)?;
+    if let Some(folder) = arguments.path("--out") {
+        write_folder(&evening, folder, &mut text)?;
+    }
+    out.write_all(&text)?;
+    Ok(Status::Done)
+}
+
+/// Tells all of the demo, and returns the untouched material.
+fn story(out: &mut dyn Write) -> Result<Evidence, Failure> {
     let mut junction = Junction::new(HEADER).map_err(refused)?;
     writeln!(out, "A junction's day, sealed and audited\n")?;
     keys(out)?;
@@ -49,10 +61,7 @@ pub fn run(arguments: &[OsString], out: &mut dyn Write) -> Result<Status, Failur
     log_lines(&evening, out)?;
     audit(&evening, out)?;
     intruder(&evening, &AtHand { noon, standby }, out)?;
-    if let Some(folder) = arguments.path("--out") {
-        write_folder(&evening, folder, out)?;
-    }
-    Ok(Status::Done)
+    Ok(evening)
 }
 
 /// No call of the demo is refused; if one were, this would name it.
