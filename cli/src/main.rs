@@ -26,7 +26,7 @@ fn main() -> ExitCode {
 }
 
 fn answer(arguments: &[OsString]) -> Result<tool::Status, Failure> {
-    let mut out = output::stdout();
+    let mut out = output::stdout()?;
     let status = tool::run(arguments, &mut out)?;
     out.flush()?;
     Ok(status)

@@ -18,6 +18,8 @@ mod item;
 mod material;
 #[path = "tool/numbers.rs"]
 mod numbers;
+#[path = "tool/output.rs"]
+mod output;
 #[path = "tool/pack.rs"]
 mod pack;
 #[path = "tool/plan.rs"]

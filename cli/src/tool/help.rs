@@ -21,7 +21,7 @@ Flags in the place of a command:
 A number may have commas as the tool prints it: 8192 or 8,192.
 
 Exit status: 0 done or accepted, 1 refused, damaged or a card that does not
-last, 2 bad usage or a file that can't be read or written.
+last, 2 bad usage, or a file or an output that can't be read or written.
 ";
 
 pub const DEMO: &str = "\

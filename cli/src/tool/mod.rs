@@ -2,6 +2,7 @@
 
 mod arguments;
 mod audit;
+mod closed;
 mod commands;
 mod coverage;
 mod demo;

@@ -1,13 +1,22 @@
 //! Standard output that a reader may close early.
 
+use std::fs::File;
 use std::io::{self, BufWriter, ErrorKind, Write};
+use std::os::fd::AsFd;
 
-/// Standard output. Once its reader has gone, as `head` goes, the rest is
-/// dropped: the exit status is still the command's.
-pub fn stdout() -> BufWriter<Pipe<io::Stdout>> {
-    BufWriter::new(Pipe {
-        writer: io::stdout(),
-    })
+use super::closed;
+
+/// Standard output, if it is open. Once its reader has gone, as `head` goes, the
+/// rest is dropped: the exit status is still the command's.
+pub fn stdout() -> io::Result<BufWriter<Pipe<File>>> {
+    if closed::at_start() {
+        return Err(io::Error::other("standard output is closed"));
+    }
+    // `Stdout` itself hides the error of an output that is open to reading alone.
+    let descriptor = io::stdout().as_fd().try_clone_to_owned()?;
+    Ok(BufWriter::new(Pipe {
+        writer: File::from(descriptor),
+    }))
 }
 
 pub struct Pipe<W> {
