@@ -16,6 +16,8 @@ mod folder;
 mod item;
 #[path = "tool/material.rs"]
 mod material;
+#[path = "tool/names.rs"]
+mod names;
 #[path = "tool/numbers.rs"]
 mod numbers;
 #[path = "tool/output.rs"]

@@ -8,6 +8,7 @@ use super::arguments::Arguments;
 use super::failure::Failure;
 use super::files;
 use super::json::Value;
+use super::text::exact;
 
 /// The flag that names each file, and the file's name in a folder.
 const PARTS: [(&str, &str); 5] = [
@@ -41,8 +42,8 @@ pub fn paths(arguments: &Arguments) -> Result<[PathBuf; 5], Failure> {
 /// For machines: each file's path under the name of its flag.
 pub fn names(paths: &[PathBuf; 5]) -> Vec<(&'static str, Value)> {
     let names = PARTS.iter().map(|(flag, _)| flag.trim_start_matches('-'));
-    let texts = paths.iter().map(|path| path.to_string_lossy().into_owned());
-    names.zip(texts.map(Value::Text)).collect()
+    let paths = paths.iter().map(exact);
+    names.zip(paths.map(Value::Text)).collect()
 }
 
 #[derive(Clone, Debug, PartialEq, Eq)]

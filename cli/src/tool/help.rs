@@ -53,8 +53,9 @@ In FOLDER are looked for, and each flag names another file instead:
   --json          print one JSON object: verdict, items (the count when
                   accepted), restarts (when accepted; of item, chunk, and
                   number, how many items the chunk before has), rule, item,
-                  reason, detail, files; with exit status 2 there is none, only
-                  the error for people
+                  reason, detail, files (their names; a byte that is no UTF-8 is
+                  written as \\xff, a backslash as two); with exit status 2 there
+                  is none, only the error for people
   --no-picture    leave out the picture of what the items cover
 
 A restart in accepted material says that the power was lost behind the item
@@ -91,8 +92,10 @@ In FOLDER are looked for, and each flag names another file instead:
                   the one refused), reason, detail, phase, offset, place (the
                   item's first byte in the seal file), chunk, ratchet, area
                   (phase, offset, length), data (text, null if not UTF-8;
-                  hexadecimal; index, of the byte asked for), files; with exit
-                  status 2 there is none, only the error for people
+                  hexadecimal; index, of the byte asked for), files (their
+                  names; a byte that is no UTF-8 is written as \\xff, a backslash
+                  as two); with exit status 2 there is none, only the error for
+                  people
 
 In text, bytes that are not printable ASCII are written as \\n, \\t, \\r or \\xff,
 and a backslash as two. A row of text ends with its line or after 64 columns.

@@ -1,6 +1,7 @@
 //! Text for a terminal of 80 columns.
 
 use std::ffi::OsStr;
+use std::os::unix::ffi::OsStrExt;
 
 /// The columns of a terminal.
 pub const COLUMNS: usize = 80;
@@ -51,11 +52,22 @@ pub fn counted(number: usize, noun: &str) -> String {
     format!("{} {noun}{ending}", grouped(number as u64))
 }
 
-/// A name from outside, its control characters written out: it may be made to
-/// clear a screen or to forge a line.
+/// A name from outside, written as no other is: a byte that is no UTF-8 as
+/// `\xff`, a backslash as two.
+pub fn exact(name: impl AsRef<OsStr>) -> String {
+    let mut text = String::new();
+    for part in name.as_ref().as_bytes().utf8_chunks() {
+        text += &part.valid().replace('\\', r"\\");
+        text.extend(part.invalid().iter().map(|byte| format!("\\x{byte:02x}")));
+    }
+    text
+}
+
+/// The same for people, with control characters written out too: a name may be
+/// made to clear a screen or to forge a line.
 pub fn shown(name: impl AsRef<OsStr>) -> String {
     let mut text = String::new();
-    for character in name.as_ref().to_string_lossy().chars() {
+    for character in exact(name).chars() {
         match character.is_control() {
             true => text.extend(character.escape_default()),
             false => text.push(character),
@@ -92,6 +104,13 @@ mod tests {
         let numbers = [0, 999, 1000, 65_536, 67_108_864];
         let texts = numbers.map(grouped);
         assert_eq!(texts, ["0", "999", "1,000", "65,536", "67,108,864"]);
+    }
+
+    #[test]
+    fn tells_bytes_apart() {
+        let name = OsStr::from_bytes(b"\xff\\xff\xe2\x82 \xe2\x82\xac\t");
+        assert_eq!(exact(name), "\\xff\\\\xff\\xe2\\x82 \u{20ac}\t");
+        assert_eq!(shown(name), "\\xff\\\\xff\\xe2\\x82 \u{20ac}\\t");
     }
 
     #[test]

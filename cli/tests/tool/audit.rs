@@ -77,7 +77,7 @@ fn json_of_refused_material_is_escaped() {
     let expected = r#"{"verdict":"refused","items":null,"restarts":null,"rule":21,"item":0,"reason":"the item's tag is not the one that its key gives for its message","detail":"At byte 0 of the seal file stands an entry of phase 1, offset 0, 10 bytes, chunk 0, ratchet offset 0.","files":{"#;
     assert!(text.starts_with(expected), "{text}");
     assert!(
-        text.ends_with("/a \\\"seal\\\"\\u000a\\\\.bin\"}}\n"),
+        text.ends_with("/a \\\"seal\\\"\\u000a\\\\\\\\.bin\"}}\n"),
         "{text}"
     );
     assert_eq!(text.lines().count(), 1);
