@@ -24,6 +24,10 @@ mod numbers;
 mod output;
 #[path = "tool/pack.rs"]
 mod pack;
+#[path = "tool/pack_keys.rs"]
+mod pack_keys;
+#[path = "tool/pack_output.rs"]
+mod pack_output;
 #[path = "tool/plan.rs"]
 mod plan;
 #[path = "tool/plan_table.rs"]

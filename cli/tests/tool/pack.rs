@@ -1,4 +1,4 @@
-//! `pahyndoi pack`.
+//! `pahyndoi pack`: its values, and the store that is made of them.
 
 use std::fs;
 
@@ -13,7 +13,7 @@ const VALUES: [(&str, &str); 4] = [
 ];
 
 /// What packs 4 chunks, with one flag's value replaced and further arguments.
-fn arguments(folder: &Folder, replaced: (&str, &str), more: &[&str]) -> Vec<String> {
+pub fn arguments(folder: &Folder, replaced: (&str, &str), more: &[&str]) -> Vec<String> {
     let (keys, out) = (folder.path("keys.bin"), folder.path("auditor.store"));
     let mut values = VALUES.to_vec();
     values.extend([("--keys", &*keys), ("--out", &*out)]);
@@ -30,17 +30,24 @@ fn arguments(folder: &Folder, replaced: (&str, &str), more: &[&str]) -> Vec<Stri
     arguments.into_iter().map(String::from).collect()
 }
 
-fn pack(folder: &Folder, replaced: (&str, &str), more: &[&str]) -> Run {
+pub fn pack(folder: &Folder, replaced: (&str, &str), more: &[&str]) -> Run {
     run(&arguments(folder, replaced, more))
 }
 
-fn folder(name: &str, keys: &[u8]) -> Folder {
+/// So many chunks, all different and none all zeros: each is its number, counted
+/// from 1, 16 times over.
+pub fn keys(chunks: u16) -> Vec<u8> {
+    let chunks = (1..=chunks).map(|number| number.to_le_bytes().repeat(16));
+    chunks.flatten().collect()
+}
+
+pub fn folder(name: &str, keys: &[u8]) -> Folder {
     let folder = Folder::new(&format!("pack/{name}"));
     folder.write("keys.bin", keys);
     folder
 }
 
-const NONE: (&str, &str) = ("", "");
+pub const NONE: (&str, &str) = ("", "");
 
 #[test]
 fn store_is_header_and_keys() {
@@ -118,7 +125,7 @@ fn parameters_left_out_are_the_common_ones() {
         ("--log-capacity=8192", [32, 0, 2, 0, 0, 0, 32, 0, 0]),
     ];
     for (flag, set) in flags {
-        let folder = folder("one-flag", &[7; 128]);
+        let folder = folder("one-flag", &keys(4));
         pack(&folder, NONE, &[flag]).ended(0);
         let store = folder.read("auditor.store");
         assert_eq!(kind_and_set(&store), (6, &set[..]), "{flag}");
@@ -143,60 +150,12 @@ fn packed_stores_open() {
             65_536,
         ),
     ] {
-        let folder = folder("open", &[7; 128]);
+        let folder = folder("open", &keys(4));
         pack(&folder, NONE, &set).ended(0);
         let store = folder.read("auditor.store");
         let logs = vec![0; 3 * capacity];
         assert!(pahyndoi::open(&store, &logs, &[0; 3], &[], 0).is_ok());
     }
-}
-
-#[test]
-fn existing_store_is_left_unless_forced() {
-    let folder = folder("force", &[7; 128]);
-    folder.write("auditor.store", b"old");
-    let error = pack(&folder, NONE, &[]).failed();
-    assert!(error.contains("is there already"), "{error}");
-    assert_eq!(folder.read("auditor.store"), b"old");
-    pack(&folder, NONE, &["--force"]).ended(0);
-    assert_eq!(folder.read("auditor.store").len(), 146);
-}
-
-#[test]
-fn name_with_spaces_stays_as_it_is() {
-    let folder = folder("spaces", &[7; 128]);
-    let path = folder.path("two  spaces.store");
-    let text = pack(&folder, ("--out", &path), &[]).ended(0);
-    assert!(text.starts_with(&format!("{path}: 146 bytes;")), "{text}");
-}
-
-/// Where files can't grow, as on a full disk, no part of a store stays.
-#[test]
-fn store_that_cannot_be_written_whole_is_removed() {
-    use std::process::Command;
-    let folder = folder("short", &[7; 128]);
-    let output = Command::new("sh")
-        .args(["-c", "trap '' XFSZ; ulimit -f 0; exec \"$@\"", "sh"])
-        .arg(env!("CARGO_BIN_EXE_pahyndoi"))
-        .args(arguments(&folder, NONE, &[]))
-        .output()
-        .expect("a shell runs");
-    let error = String::from_utf8(output.stderr).expect("UTF-8");
-    assert_eq!(output.status.code(), Some(2));
-    assert!(
-        error.contains("auditor.store: cannot write it: "),
-        "{error}"
-    );
-    assert!(!fs::exists(folder.path("auditor.store")).unwrap());
-}
-
-#[test]
-fn store_is_its_owners_alone() {
-    use std::os::unix::fs::PermissionsExt;
-    let folder = folder("mode", &[7; 128]);
-    pack(&folder, NONE, &[]).ended(0);
-    let metadata = fs::metadata(folder.path("auditor.store")).unwrap();
-    assert_eq!(metadata.permissions().mode() & 0o077, 0);
 }
 
 #[test]
@@ -298,34 +257,6 @@ fn sets_out_of_range() {
         assert_eq!(error, expected);
     }
     assert!(!fs::exists(folder.path("auditor.store")).unwrap());
-}
-
-#[test]
-fn wrong_keys() {
-    let mut zeros = vec![7; 128];
-    zeros[64..96].fill(0);
-    let wrong = [
-        (vec![], "has 0 bytes, not the 128 of 4 chunks"),
-        (vec![7; 127], "has 127 bytes, not the 128 of 4 chunks"),
-        (vec![7; 129], "has 129 bytes, not the 128 of 4 chunks"),
-        (zeros, "chunk 2 is all zeros, as if it were burned"),
-    ];
-    for (keys, reason) in wrong {
-        let folder = folder("keys", &keys);
-        let error = pack(&folder, NONE, &[]).failed();
-        assert!(error.ends_with(&format!("keys.bin: {reason}\n")), "{error}");
-        assert!(!fs::exists(folder.path("auditor.store")).unwrap());
-    }
-}
-
-#[test]
-fn odd_outputs() {
-    let folder = folder("odd", &[7; 128]);
-    let nowhere = folder.path("nowhere/auditor.store");
-    let error = pack(&folder, ("--out", &nowhere), &[]).failed();
-    assert!(error.contains("no such file or folder"), "{error}");
-    let error = pack(&folder, ("--out", folder.whole()), &["--force"]).failed();
-    assert!(error.contains("cannot write it"), "{error}");
 }
 
 #[test]
