@@ -148,7 +148,8 @@ Usage: pahyndoi pack --id HEX --phases P --chunks C --ratchet N
   --phases P        1 to 8
   --chunks C        1 to 1024
   --ratchet N       keys made from each chunk, 1 to 256
-  --keys FILE       the chunks: 32 bytes each, C of them, none all zeros
+  --keys FILE       the chunks: 32 bytes each, C of them, all different and none
+                    all zeros
   --out FILE        where the store goes
   --force           replace FILE if it is there
 
@@ -165,7 +166,9 @@ a standby with the same keys too: what one of them sealed is then refused as the
 other's. Both copies of a store have the same id.
 
 No keys are made here. FILE's bytes must be random and secret, from a source
-that you trust; whoever knows them can forge seals.
+that you trust; whoever knows them can forge seals. No two chunks of a store may
+be equal: whoever takes the controller finds in the one not burned yet the keys
+of the burned one, and can forge what they sealed.
 
 Exit status: 0, or 2 for bad usage or a file that can't be read or written.
 ";

@@ -17,6 +17,7 @@ mod found;
 mod help;
 mod item;
 mod json;
+mod keys;
 mod lookup;
 pub mod output;
 mod pack;

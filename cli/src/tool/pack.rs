@@ -2,14 +2,14 @@
 
 use std::ffi::OsString;
 use std::io::Write;
-use std::path::Path;
 
 use super::Status;
 use super::arguments::{Arguments, Syntax};
 use super::failure::Failure;
 use super::files;
+use super::keys;
 use super::set::{DATA_LIMITS, LOG_CAPACITIES, Set, TAG_LENGTHS};
-use super::store::{CHUNK_LENGTH, CHUNKS, Header, PHASES, RATCHET, is_burned};
+use super::store::{CHUNKS, Header, PHASES, RATCHET};
 use super::text::{counted, grouped, shown};
 
 const SYNTAX: Syntax = Syntax {
@@ -35,7 +35,8 @@ pub fn run(arguments: &[OsString], out: &mut dyn Write) -> Result<Status, Failur
     let keys_path = arguments.required_path("--keys")?;
     let store_path = arguments.required_path("--out")?;
     let keys = files::read(keys_path)?;
-    check_keys(keys_path, &keys, header.chunks as usize)?;
+    let checked = keys::check(&keys, header.chunks as usize);
+    checked.map_err(|reason| Failure::file(keys_path, reason))?;
     let store = [header.to_bytes(), keys].concat();
     files::write(store_path, &store, arguments.has("--force"))?;
     writeln!(
@@ -98,25 +99,5 @@ fn id(arguments: &Arguments) -> Result<[u8; 8], Failure> {
     match number {
         Some(number) => Ok(number.to_be_bytes()),
         None => Err(arguments.unwanted("--id", wanted)),
-    }
-}
-
-fn check_keys(path: &Path, keys: &[u8], chunk_count: usize) -> Result<(), Failure> {
-    let needed = CHUNK_LENGTH * chunk_count;
-    if keys.len() != needed {
-        let reason = format!(
-            "has {}, not the {} of {}",
-            counted(keys.len(), "byte"),
-            grouped(needed as u64),
-            counted(chunk_count, "chunk")
-        );
-        return Err(Failure::file(path, reason));
-    }
-    match keys.chunks(CHUNK_LENGTH).position(is_burned) {
-        Some(number) => {
-            let reason = format!("chunk {number} is all zeros, as if it were burned");
-            Err(Failure::file(path, reason))
-        }
-        None => Ok(()),
     }
 }
