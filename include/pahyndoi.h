@@ -105,6 +105,11 @@ uint32_t pahyndoi_hmac_sha256(const uint8_t *key, size_t key_length,
  * Numbers are little-endian. A store of kind 1 has the set 32, 512, 8,192.
  * docs/FORMAT.md, 2 to 4, gives the layouts.
  *
+ * Whoever makes the store makes its chunks random and all different; no call
+ * checks that. A chunk that equals a burned one still has that one's keys:
+ * whoever takes the device can forge what they sealed, and the audit accepts
+ * it.
+ *
  * The id, from byte 1 on, is any 8 bytes. Every message, of an item or for the
  * next key, begins with them; no item has them. Give each store an id of its
  * own, a standby's with equal chunks too: in the other's seal file an item of
