@@ -2,7 +2,7 @@
 
 use std::fs::{self, File, OpenOptions};
 use std::io::{ErrorKind, Read, Write};
-use std::os::unix::fs::OpenOptionsExt;
+use std::os::unix::fs::{MetadataExt, OpenOptionsExt};
 use std::path::Path;
 
 use super::failure::Failure;
@@ -36,6 +36,15 @@ fn too_long(path: &Path) -> Failure {
         path,
         format!("has more than the {limit} bytes that are read"),
     )
+}
+
+/// Whether the two paths lead to one file, whatever names and links they take.
+pub fn are_same(one: &Path, other: &Path) -> bool {
+    let place = |path| {
+        let metadata = fs::metadata(path).ok()?;
+        Some((metadata.dev(), metadata.ino()))
+    };
+    place(one).is_some_and(|one| place(other) == Some(one))
 }
 
 /// Writes a new file, readable to its owner alone: it may hold keys. One that

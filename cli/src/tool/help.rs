@@ -150,7 +150,7 @@ Usage: pahyndoi pack --id HEX --phases P --chunks C --ratchet N
   --ratchet N       keys made from each chunk, 1 to 256
   --keys FILE       the chunks: 32 bytes each, C of them, all different and none
                     all zeros
-  --out FILE        where the store goes
+  --out FILE        where the store goes, never the file of the keys
   --force           replace FILE if it is there
 
   --tag-length T    bytes of an item's tag, 16 to 32

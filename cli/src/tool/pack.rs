@@ -34,6 +34,10 @@ pub fn run(arguments: &[OsString], out: &mut dyn Write) -> Result<Status, Failur
     let header = header(&arguments)?;
     let keys_path = arguments.required_path("--keys")?;
     let store_path = arguments.required_path("--out")?;
+    if files::are_same(keys_path, store_path) {
+        let reason = "is the key file itself, and is left as it is";
+        return Err(Failure::file(store_path, reason));
+    }
     let keys = files::read(keys_path)?;
     let checked = keys::check(&keys, header.chunks as usize);
     checked.map_err(|reason| Failure::file(keys_path, reason))?;
