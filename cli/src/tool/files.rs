@@ -1,12 +1,13 @@
 //! Reading and writing whole files.
 
-use std::fs::{self, File, OpenOptions};
-use std::io::{ErrorKind, Read, Write};
-use std::os::unix::fs::{MetadataExt, OpenOptionsExt};
+use std::fs::{self, File};
+use std::io::{ErrorKind, Read};
+use std::os::unix::fs::MetadataExt;
 use std::path::Path;
 
 use super::failure::Failure;
 use super::text::grouped;
+use super::writing;
 
 /// The longest file that is read, 64 MiB. The longest seal file that an audit
 /// can accept has 262,144 items of 50 bytes, a fifth of it.
@@ -47,26 +48,43 @@ pub fn are_same(one: &Path, other: &Path) -> bool {
     place(one).is_some_and(|one| place(other) == Some(one))
 }
 
-/// Writes a new file, readable to its owner alone: it may hold keys. One that
-/// can't be written whole is removed. An existing file is overwritten if
-/// `force` says so, and keeps its mode.
+/// Writes a new file, readable to its owner alone: it may hold keys. If `force`
+/// says so, it takes the place of a file that is there. Where it can't be
+/// written whole nothing of it stays, and what was there stays as it was.
 pub fn write(path: &Path, bytes: &[u8], force: bool) -> Result<(), Failure> {
-    let mut options = OpenOptions::new();
-    options.write(true).mode(0o600);
-    match force {
-        true => options.create(true).truncate(true),
-        false => options.create_new(true),
+    let replaced = force && is_file(path)?;
+    let cannot_write = |error| cannot("write", path, &error);
+    let folder = writing::open_folder(path).map_err(cannot_write)?;
+    let written = match replaced {
+        true => writing::replace(path, bytes),
+        false => writing::create(path, bytes),
     };
-    let mut file = options
-        .open(path)
-        .map_err(|error| cannot("write", path, &error))?;
-    file.write_all(bytes).map_err(|error| {
-        if !force {
-            // What matters to the reader is the first error.
-            let _ = fs::remove_file(path);
-        }
-        cannot("write", path, &error)
+    written.map_err(cannot_write)?;
+    writing::sync_folder(&folder).map_err(|error| {
+        let reason = format!("is written, but its folder cannot be synced: {error}");
+        Failure::file(path, reason)
     })
+}
+
+/// Whether a regular file is there. Nothing else is ever replaced: no device,
+/// and nothing behind a link.
+fn is_file(path: &Path) -> Result<bool, Failure> {
+    let kind = match fs::symlink_metadata(path) {
+        Err(error) if error.kind() == ErrorKind::NotFound => return Ok(false),
+        Err(error) => return Err(cannot("write", path, &error)),
+        Ok(metadata) => metadata.file_type(),
+    };
+    let what = if kind.is_file() {
+        return Ok(true);
+    } else if kind.is_symlink() {
+        "a link"
+    } else if kind.is_dir() {
+        "a folder"
+    } else {
+        "no regular file"
+    };
+    let reason = format!("is {what}, and is left as it is");
+    Err(Failure::file(path, reason))
 }
 
 pub fn is_there(path: &Path) -> Failure {

@@ -151,7 +151,9 @@ Usage: pahyndoi pack --id HEX --phases P --chunks C --ratchet N
   --keys FILE       the chunks: 32 bytes each, C of them, all different and none
                     all zeros
   --out FILE        where the store goes, never the file of the keys
-  --force           replace FILE if it is there
+  --force           replace FILE if it is there: a new file, its owner's alone,
+                    takes its place once it is written whole; what is no regular
+                    file, as a link, is left as it is
 
   --tag-length T    bytes of an item's tag, 16 to 32
   --data-limit D    the most bytes of an entry's data, 1 to 4096

@@ -29,6 +29,7 @@ mod set;
 mod store;
 mod text;
 mod verdict;
+mod writing;
 
 use std::ffi::OsString;
 use std::io::Write;
