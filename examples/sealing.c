@@ -1,6 +1,6 @@
 /* Sealed logs from the plan of their card to the audit, with every call of pahyndoi.h: on a card
    with a store of kind 1, which has a standby, on one whose controller loses its power, and on a
-   small card, whose store has a set of parameters of its own. */
+   small card, whose store has a set of parameters of its own, through losses of power as well. */
 
 #include <stdio.h>
 #include <string.h>
@@ -12,6 +12,9 @@ enum { PHASES = 2, CHUNKS = 2, RATCHET = 3 };
 
 /* The set of the small card. */
 enum { TAG_LENGTH = 16, DATA_LIMIT = 64, LOG_CAPACITY = 512 };
+
+/* Where a store's header has the ratchet and, in kind 6, the tag length. */
+enum { RATCHET_PLACE = 14, TAG_LENGTH_PLACE = 18 };
 
 static uint8_t store[PAHYNDOI_HEADER_SIZE + CHUNKS * PAHYNDOI_CHUNK_SIZE];
 static uint8_t auditor[sizeof store];
@@ -96,19 +99,19 @@ static void put_fields(uint8_t *header, uint8_t kind)
     put_id(header, "device 7");
     header[9] = PHASES;
     put_number(header + 10, CHUNKS);
-    put_number(header + 14, RATCHET);
+    put_number(header + RATCHET_PLACE, RATCHET);
 }
 
 /* The fields behind them in kind 6. */
 static void put_set(uint8_t *header, uint8_t tag_length, uint32_t data_limit, uint32_t log_capacity)
 {
-    header[18] = tag_length;
+    header[TAG_LENGTH_PLACE] = tag_length;
     put_number(header + 19, data_limit);
     put_number(header + 23, log_capacity);
 }
 
 /* Chunks, and the auditor's copy of the unused store. The chunks of a real store are random bytes,
-   known to device and auditor alone. */
+   no two the same, known to device and auditor alone. */
 static void put_chunks(struct card *card, size_t header_size)
 {
     for (size_t i = header_size; i < card->store_size; i++)
@@ -143,10 +146,12 @@ static NEVER_INLINED uint64_t call_restart(struct card *card, uint32_t number)
                             card->logs_size, card->seal, card->seal_size, number);
 }
 
-/* The lengths reached, after each call that has written. With the memories as the call left them
+/* The lengths reached, after each call that was not refused. With the memories as the call left them
    they must be taken over as one: the power may go before or after that, not between. */
-static void keep(struct card *card)
+static void keep(struct card *card, uint64_t answer)
 {
+    if (PAHYNDOI_REFUSAL(answer) != 0)
+        return;
     memcpy(card->kept.lengths, card->state.lengths, sizeof card->kept.lengths);
     card->kept.seal_length = card->state.seal_length;
 }
@@ -163,7 +168,7 @@ static uint64_t append(struct card *card, uint8_t phase, const char *text)
 {
     uint64_t answer = call_append(card, phase, text);
     wipe_stack();
-    keep(card);
+    keep(card, answer);
     return answer;
 }
 
@@ -171,7 +176,7 @@ static uint64_t close_store(struct card *card)
 {
     uint64_t answer = call_close(card);
     wipe_stack();
-    keep(card);
+    keep(card, answer);
     return answer;
 }
 
@@ -179,7 +184,7 @@ static uint64_t restart(struct card *card, uint32_t number)
 {
     uint64_t answer = call_restart(card, number);
     wipe_stack();
-    keep(card);
+    keep(card, answer);
     return answer;
 }
 
@@ -191,36 +196,55 @@ static uint32_t get_number(const uint8_t bytes[4])
     return number;
 }
 
+/* How many keys a chunk of the card has, and how many bytes a tag: its store says. */
+static uint32_t ratchet(const struct card *card)
+{
+    return get_number(card->store + RATCHET_PLACE);
+}
+
+static size_t tag_length(const struct card *card)
+{
+    return card->store[0] == PAHYNDOI_OWN_SET_KIND ? card->store[TAG_LENGTH_PLACE]
+                                                   : PAHYNDOI_TAG_SIZE;
+}
+
 /* Where no key is held any more: with what number a restart is due, 0 where none is. The last item
    of the seal file tells, by its ratchet offset: so many keys of its chunk were used, and one. With
-   all of them used, or with no item, nothing was cut. */
+   all of them used, or with no item, nothing was cut. How long an item is, its kind and the card's
+   tag length say. To be asked behind an open that was not refused: the store is then good, and the
+   seal file within its memory. */
 static uint32_t restart_due(const struct card *card)
 {
+    const size_t tag = tag_length(card);
     uint32_t used = 0;
     size_t place = 0;
     while (place < card->kept.seal_length) {
         const uint8_t *item = card->seal + place;
         if (item[0] == PAHYNDOI_ENTRY_KIND) {
             used = get_number(item + PAHYNDOI_ENTRY_OFFSET_PLACE) + 1;
-            place += PAHYNDOI_ENTRY_SIZE;
+            place += PAHYNDOI_ENTRY_SIZE_OF(tag);
         } else if (item[0] == PAHYNDOI_FILLER_KIND) {
             used = get_number(item + PAHYNDOI_FILLER_OFFSET_PLACE) + 1;
-            place += PAHYNDOI_FILLER_SIZE;
+            place += PAHYNDOI_FILLER_SIZE_OF(tag);
         } else {
             used = get_number(item + PAHYNDOI_RESTART_OFFSET_PLACE) + 1;
-            place += PAHYNDOI_RESTART_SIZE;
+            place += PAHYNDOI_RESTART_SIZE_OF(tag);
         }
     }
-    return used < RATCHET ? used : 0;
+    return used < ratchet(card) ? used : 0;
 }
 
 /* The power goes, and with it the state. It comes back: the controller opens with the lengths kept,
-   and restarts where a chunk was cut. */
+   and restarts where a chunk was cut. With a refused open it writes nothing more. */
 static void lose_power(struct card *card)
 {
+    uint64_t opened;
     uint32_t number;
     memset(&card->state, 0, sizeof card->state);
-    print_answer("power cut, open", open_store(card));
+    opened = open_store(card);
+    print_answer("power cut, open", opened);
+    if (PAHYNDOI_REFUSAL(opened) != 0)
+        return;
     number = restart_due(card);
     printf("restart due: number %u\n", (unsigned)number);
     if (number > 0)
@@ -359,8 +383,9 @@ static void use_card_through_cuts(void)
     look_up(&card, 1, 11);
 }
 
-/* A store of kind 6, and memories sized by its set. Refused are a set with tags of 15 bytes, data a
-   byte longer than the limit, and the audit beside a store with another set. */
+/* A store of kind 6, and memories sized by its set. Its controller loses its power too, with a
+   chunk half used and behind a close. Refused are a set with tags of 15 bytes, data a byte longer
+   than the limit, and the audit beside a store with another set. */
 static void use_small_card(void)
 {
     static struct card card = {.store = small_store, .auditor = small_auditor,
@@ -379,11 +404,13 @@ static void use_small_card(void)
     print_answer("append of 65 bytes", append(&card, 1, line));
     print_answer("append of 64 bytes", append(&card, 1, line + 1));
     print_answer("append", append(&card, 2, "fan off"));
-    print_answer("close", close_store(&card));
     print_bytes("second entry", small_seal + PAHYNDOI_ENTRY_SIZE_OF(TAG_LENGTH),
                 PAHYNDOI_ENTRY_SIZE_OF(TAG_LENGTH));
-    print_bytes("filler", small_seal + 2 * PAHYNDOI_ENTRY_SIZE_OF(TAG_LENGTH),
+    lose_power(&card);
+    print_answer("close", close_store(&card));
+    print_bytes("filler", small_seal + card.state.seal_length - PAHYNDOI_FILLER_SIZE_OF(TAG_LENGTH),
                 PAHYNDOI_FILLER_SIZE_OF(TAG_LENGTH));
+    lose_power(&card);
     print_answer("audit", audit(&card));
     look_up(&card, 2, 6);
 
