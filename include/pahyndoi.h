@@ -112,9 +112,10 @@ uint32_t pahyndoi_hmac_sha256(const uint8_t *key, size_t key_length,
  *
  * The id, from byte 1 on, is any 8 bytes. Every message, of an item or for the
  * next key, begins with them; no item has them. Give each store an id of its
- * own, a standby's with equal chunks too: in the other's seal file an item of
- * the one then has a wrong tag (21), and with one id for both it would pass.
- * What passing takes is said in docs/FORMAT.md, 10.
+ * own, a standby's with equal chunks too: with one id for both an item of the
+ * one passes in the other's seal file. With two it is refused there, by 21 at
+ * the latest, unless its tag fits two different messages; docs/FORMAT.md, 10,
+ * says what that takes.
  *
  * Whoever makes the store picks the set, and firmware must size its memories by
  * it. No call is handed a set: each reads it from the store that it is lent,
@@ -149,7 +150,9 @@ uint32_t pahyndoi_hmac_sha256(const uint8_t *key, size_t key_length,
  * kind: 2 an entry, 3 a filler, 5 a restart. Which key sealed it stands in its
  * chunk number and, in the 4 bytes behind that, its ratchet offset, which is 0
  * for the first key of a chunk. These are the kinds, and the places of the
- * ratchet offset in items of each.
+ * ratchet offset in items of each. An entry has another offset as well, that of
+ * its data in the phase's log, which says nothing of keys: its place is
+ * PAHYNDOI_ENTRY_LOG_OFFSET_PLACE.
  */
 #define PAHYNDOI_ENTRY_KIND 2
 #define PAHYNDOI_FILLER_KIND 3
@@ -157,6 +160,7 @@ uint32_t pahyndoi_hmac_sha256(const uint8_t *key, size_t key_length,
 #define PAHYNDOI_ENTRY_OFFSET_PLACE 14
 #define PAHYNDOI_FILLER_OFFSET_PLACE 5
 #define PAHYNDOI_RESTART_OFFSET_PLACE 5
+#define PAHYNDOI_ENTRY_LOG_OFFSET_PLACE 2
 
 /*
  * Of kind 1: tag length, data limit and log capacity, and the bytes of an
@@ -411,15 +415,15 @@ uint64_t pahyndoi_close(pahyndoi_state *state,
  *     chunk may stay, and the state's key is never kept: keys must be gone once
  *     they are used, and memory that lasts may still have them.
  *  2. After a cut it opens with the lengths kept.
- *  3. It walks through the seal file, from byte 0 on, by kinds and sizes, to
- *     the last item, and takes that item's ratchet offset plus 1. Where this is
- *     below N the chunk was half used: firmware restarts with it as the number.
- *     Where it is N the chunk was used up, and where there is no item nothing
- *     was used: then no restart is due. (The state's offset after the last call
- *     that wrote an item is the same number, or 0 where no restart is due.
- *     Firmware may keep that as well; not the one after any other call: after
- *     an open it is 0 although a restart may be due, and a close that writes
- *     nothing, or a refused append, leaves it so.)
+ *  3. It walks through the seal file, from byte 0 on, by kinds and the sizes of
+ *     the store's set, to the last item, and takes that item's ratchet offset
+ *     plus 1. Where this is below N the chunk was half used: firmware restarts
+ *     with it as the number. Where it is N the chunk was used up, and where
+ *     there is no item nothing was used: then no restart is due. (The state's
+ *     offset after the last call that wrote an item is the same number, or 0
+ *     where no restart is due. Firmware may keep that as well; not the one
+ *     after any other call: after an open it is 0 although a restart may be
+ *     due, and a close that writes nothing, or a refused append, leaves it so.)
  *  4. It goes on as after any open.
  *
  * A restart item is an item like any other, at ratchet offset 0: where the next

@@ -51,3 +51,11 @@ fn items_are_those_of_the_header() {
         assert!(HEADER.contains(&of_every_set), "{of_every_set}");
     }
 }
+
+/// An entry has two offsets: that of its data in the log has a name of its own.
+#[test]
+fn log_offset_is_not_the_ratchet_offset() {
+    let (place, _) = field("Entry", "log offset");
+    assert_eq!(place, defined("ENTRY_LOG_OFFSET_PLACE"));
+    assert_ne!(place, defined("ENTRY_OFFSET_PLACE"));
+}
