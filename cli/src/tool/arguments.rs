@@ -158,7 +158,18 @@ impl Arguments {
 
     /// The flag's decimal number, if it is in the range.
     pub fn required_number(&self, flag: &str, range: RangeInclusive<u32>) -> Result<u32, Failure> {
-        self.number(flag, self.required(flag)?, range)
+        self.number(flag, self.required(flag)?, &range, &range)
+    }
+
+    /// The flag's decimal number up to this one, which a proved call judges. An
+    /// error about what is none names the range that the call takes.
+    pub fn judged_number(
+        &self,
+        flag: &str,
+        most: u32,
+        wanted: &RangeInclusive<u32>,
+    ) -> Result<u32, Failure> {
+        self.number(flag, self.required(flag)?, &(0..=most), wanted)
     }
 
     /// The decimal number of a flag that may be left out, if it is in the range.
@@ -169,15 +180,20 @@ impl Arguments {
     ) -> Result<Option<u32>, Failure> {
         let value = self.values.get(flag);
         value
-            .map(|value| self.number(flag, value, range))
+            .map(|value| self.number(flag, value, &range, &range))
             .transpose()
     }
 
-    /// The operands' decimal numbers. An error calls one by this name.
-    pub fn numbers(&self, name: &str) -> Result<Vec<u32>, Failure> {
+    /// The operands' decimal numbers, which a proved call judges. An error calls
+    /// one by this name.
+    pub fn judged_numbers(
+        &self,
+        name: &str,
+        wanted: &RangeInclusive<u32>,
+    ) -> Result<Vec<u32>, Failure> {
         let operands = self.operands.iter();
         operands
-            .map(|operand| self.number(name, operand.as_os_str(), 0..=u32::MAX))
+            .map(|operand| self.number(name, operand.as_os_str(), &(0..=u32::MAX), wanted))
             .collect()
     }
 
@@ -185,14 +201,15 @@ impl Arguments {
         &self,
         name: &str,
         value: &OsStr,
-        range: RangeInclusive<u32>,
+        read: &RangeInclusive<u32>,
+        wanted: &RangeInclusive<u32>,
     ) -> Result<u32, Failure> {
         let number = value.to_str().and_then(decimal);
         number
-            .filter(|number| range.contains(number))
+            .filter(|number| read.contains(number))
             .ok_or_else(|| {
-                let (low, high) = range.into_inner();
-                let [low, high] = [low, high].map(|end| grouped(end.into()));
+                let ends = [wanted.start(), wanted.end()];
+                let [low, high] = ends.map(|end| grouped((*end).into()));
                 self.unlike(name, &format!("a number from {low} to {high}"), value)
             })
     }

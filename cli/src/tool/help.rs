@@ -32,9 +32,11 @@ each is audited. The demo's keys come from a fixed seed: they are not random.
 Usage: pahyndoi demo [--out FOLDER]
 
   --out FOLDER    also write the untouched material into FOLDER, for 'audit',
-                  'item' and 'dump'; files that are there already are left alone
+                  'item' and 'dump'; where one of these files is there already
+                  it is left alone, and nothing is done
 
-Exit status: 0, or 2 where something can't be written.
+Exit status: 0, or 2 for bad usage, or a file or an output that can't be
+written.
 ";
 
 pub const AUDIT: &str = "\
@@ -66,7 +68,8 @@ the last burned chunk; what stands up to that item can't be dropped.
 At most 64 MiB (67,108,864 bytes) of a file are read; a longer one is an error.
 The longest seal file that can be accepted has 13,107,200 bytes.
 
-Exit status: 0 accepted, 1 refused, 2 bad usage or a file that can't be read.
+Exit status: 0 accepted, 1 refused, 2 bad usage, a file that can't be read, or
+an output that can't be written.
 ";
 
 pub const ITEM: &str = "\
@@ -102,7 +105,8 @@ and a backslash as two. A row of text ends with its line or after 64 columns.
 
 At most 64 MiB (67,108,864 bytes) of a file are read; a longer one is an error.
 
-Exit status: 0 found, 1 refused, 2 bad usage or a file that can't be read.
+Exit status: 0 found, 1 refused, 2 bad usage, a file that can't be read, or an
+output that can't be written.
 ";
 
 pub const DUMP: &str = "\
@@ -133,7 +137,8 @@ Usage: pahyndoi dump FILE [--store STORE] [--json]
 At most 64 MiB (67,108,864 bytes) are read; a longer file is an error.
 
 Exit status: 0 all is listed, 1 the file is damaged (a seal file is listed up to
-there, with byte and cause), 2 bad usage or a file that can't be read.
+there, with byte and cause), 2 bad usage, a file that can't be read, or an
+output that can't be written.
 ";
 
 pub const PACK: &str = "\
@@ -152,8 +157,9 @@ Usage: pahyndoi pack --id HEX --phases P --chunks C --ratchet N
                     all zeros
   --out FILE        where the store goes, never the file of the keys
   --force           replace FILE if it is there: a new file, its owner's alone,
-                    takes its place once it is written whole; what is no regular
-                    file, as a link, is left as it is
+                    takes its place once it is written whole; a link, what else
+                    is no regular file, and what is write-protected are left as
+                    they are
 
   --tag-length T    bytes of an item's tag, 16 to 32
   --data-limit D    the most bytes of an entry's data, 1 to 4096
@@ -164,15 +170,16 @@ parameters; those left out are T = 32, D = 512, L = 8192. Without them it is of
 kind 1, which always has these three.
 
 The id is a part of every message that is sealed. Give each controller its own,
-a standby with the same keys too: what one of them sealed is then refused as the
-other's. Both copies of a store have the same id.
+a standby with the same keys too: with one id for both, what one of them sealed
+passes as the other's. Both copies of a store have the same id.
 
 No keys are made here. FILE's bytes must be random and secret, from a source
 that you trust; whoever knows them can forge seals. No two chunks of a store may
 be equal: whoever takes the controller finds in the one not burned yet the keys
 of the burned one, and can forge what they sealed.
 
-Exit status: 0, or 2 for bad usage or a file that can't be read or written.
+Exit status: 0, or 2 for bad usage, keys that are refused, or a file or an
+output that can't be read or written.
 ";
 
 pub const PLAN: &str = "\
@@ -185,7 +192,8 @@ Commands:
 
 'pahyndoi plan COMMAND --help' says more about a command.
 
-Exit status: 0 found, 1 refused or none lasts, 2 bad usage.
+Exit status: 0 found, 1 refused or none lasts, 2 bad usage, or an output that
+can't be written.
 ";
 
 pub const PLAN_RATCHET: &str = "\
@@ -220,7 +228,8 @@ filler 9 and its tag, a restart 13 and its tag; with kind 1 that is 50, 41 and
 It knows of no power cuts. Count each that you reckon with as a close, and the
 restart behind it as an entry.
 
-Exit status: 0 found, 1 refused or none lasts, 2 bad usage.
+Exit status: 0 found, 1 refused or none lasts, 2 bad usage, or an output that
+can't be written.
 ";
 
 #[cfg(test)]

@@ -2,6 +2,7 @@
 
 use std::ffi::OsString;
 use std::io::Write;
+use std::ops::RangeInclusive;
 
 use pahyndoi::{Rejected, data_at, item_at};
 
@@ -14,6 +15,8 @@ use super::found::{self, Found};
 use super::json::Value;
 use super::reading::Reading;
 use super::refused::{self, Refused};
+use super::set::LOG_CAPACITIES;
+use super::store::PHASES;
 
 const SYNTAX: Syntax = Syntax {
     command: "item",
@@ -32,11 +35,13 @@ const SYNTAX: Syntax = Syntax {
 
 /// The rule of a byte that no log has.
 const NO_SUCH_BYTE: u32 = 24;
+/// Those that the largest log has.
+const OFFSETS: RangeInclusive<u32> = 0..=*LOG_CAPACITIES.end() - 1;
 
 pub fn run(arguments: &[OsString], out: &mut dyn Write) -> Result<Status, Failure> {
     let arguments = SYNTAX.read(arguments)?;
-    let phase = arguments.required_number("--phase", 0..=u8::MAX.into())? as u8;
-    let offset = arguments.required_number("--offset", 0..=u32::MAX)?;
+    let phase = arguments.judged_number("--phase", u8::MAX.into(), &PHASES)? as u8;
+    let offset = arguments.judged_number("--offset", u32::MAX, &OFFSETS)?;
     let paths = evidence::paths(&arguments)?;
     let evidence = Evidence::read(&paths)?;
     let reading = Reading::of(evidence.material());

@@ -21,7 +21,8 @@ fn assert_unwanted(command: &str, others: &[&str], flag: &str, range: &str, valu
     }
 }
 
-/// A sign and a digit are no flag.
+/// A sign and a digit are no flag. What is wanted is what the call takes, though
+/// other numbers are handed to it as well.
 #[test]
 fn values_that_are_no_numbers() {
     let others = ["folder", "--phase=1"];
@@ -37,13 +38,12 @@ fn values_that_are_no_numbers() {
         "²",
         "-",
     ];
-    let range = "0 to 4,294,967,295";
-    assert_unwanted("item", &others, "--offset", range, &values);
+    assert_unwanted("item", &others, "--offset", "0 to 65,535", &values);
     let others = ["folder", "--offset=1"];
     let values = ["256", "one", "-1", "+1"];
-    assert_unwanted("item", &others, "--phase", "0 to 255", &values);
+    assert_unwanted("item", &others, "--phase", "1 to 8", &values);
     let values = ["-8", "ten"];
-    assert_unwanted("plan ratchet", &["36"], "--chunks", range, &values);
+    assert_unwanted("plan ratchet", &["36"], "--chunks", "1 to 1,024", &values);
 }
 
 /// Commas that the tool would print elsewhere, or not at all.
@@ -66,11 +66,10 @@ fn commas_out_of_place() {
         "+1,024",
         "4,294,967,296",
     ];
-    let range = "0 to 4,294,967,295";
-    assert_unwanted("item", &others, "--offset", range, &values);
+    assert_unwanted("item", &others, "--offset", "0 to 65,535", &values);
     let others = ["folder", "--offset=0"];
     let values = ["1,0", "0,255", "1,024"];
-    assert_unwanted("item", &others, "--phase", "0 to 255", &values);
+    assert_unwanted("item", &others, "--phase", "1 to 8", &values);
 }
 
 /// Numbers are read as they are printed, and as digits alone.
@@ -127,7 +126,7 @@ fn commas_in_a_packed_header() {
 #[test]
 fn control_characters_in_a_number() {
     let error = run(&["item", "folder", "--phase", "\u{7}"]).failed();
-    assert!(error.contains(" to 255, not '\\u{7}'\n"), "{error}");
+    assert!(error.contains(" to 8, not '\\u{7}'\n"), "{error}");
 }
 
 /// A dash and a digit are an operand too.
@@ -135,8 +134,7 @@ fn control_characters_in_a_number() {
 fn operands_below_zero() {
     for value in ["-1", "-36", "-9x"] {
         let error = run(&["plan", "ratchet", "--chunks", "4", value]).failed();
-        let expected =
-            format!("pahyndoi: COUNT wants a number from 0 to 4,294,967,295, not '{value}'\n");
+        let expected = format!("pahyndoi: COUNT wants a number from 0 to 65,536, not '{value}'\n");
         assert!(error.starts_with(&expected), "{error}");
     }
     let error = run(&["dump", "-1"]).failed();

@@ -5,8 +5,13 @@ use crate::run::{assert_narrow, run};
 
 #[test]
 fn wrong_arguments() {
-    let wants =
-        |name, value| format!("{name} wants a number from 0 to 4,294,967,295, not '{value}'");
+    let wants = |name, value| {
+        let range = match name {
+            "COUNT" => "0 to 65,536",
+            _ => "1 to 1,024",
+        };
+        format!("{name} wants a number from {range}, not '{value}'")
+    };
     let wrong: [(&[&str], String); 19] = [
         (&[], "--chunks is missing".into()),
         (&["36"], "--chunks is missing".into()),
@@ -49,7 +54,7 @@ fn counts_need_not_be_utf_8() {
         let arguments = ["plan", "ratchet", "--chunks=8"].map(OsStr::new);
         let known = if odd.len() > 1 { 2 } else { 3 };
         let error = run(&[&arguments[..known], &[OsStr::from_bytes(odd)]].concat()).failed();
-        assert!(error.contains(" wants a number from 0 to"), "{error}");
+        assert!(error.contains(" wants a number from "), "{error}");
     }
 }
 
@@ -92,7 +97,8 @@ fn help_of_each_command_of_plan() {
             text.contains("\nUsage: pahyndoi plan ratchet --chunks C"),
             "{text}"
         );
-        let status = "\nExit status: 0 found, 1 refused or none lasts, 2 bad usage.\n";
+        let status = "\nExit status: 0 found, 1 refused or none lasts, 2 bad usage, or an output \
+                      that\ncan't be written.\n";
         assert!(text.ends_with(status), "{text}");
     }
 }

@@ -1,11 +1,14 @@
 //! The counts that a card is planned for, and the chunks that they take.
 
+use std::ops::RangeInclusive;
+
 use super::super::set::{LOG_CAPACITIES, Set};
 use super::super::store::{CHUNKS, PHASES, RATCHET};
 use super::super::text::{counted, grouped};
 
 const MOST_COUNTS: usize = 64;
-const LARGEST_COUNT: u32 = 65_536;
+/// What a count may be.
+pub const COUNTS: RangeInclusive<u32> = 0..=65_536;
 
 pub struct Plan {
     /// The entries between two closes, for each close to come.
@@ -63,7 +66,7 @@ impl Plan {
 
     /// What is out of range in a plan that is refused.
     pub fn out_of_range(&self) -> String {
-        let large = self.counts.iter().find(|count| **count > LARGEST_COUNT);
+        let large = self.counts.iter().find(|count| !COUNTS.contains(count));
         match large {
             _ if self.counts.len() > MOST_COUNTS => {
                 format!("There are {}.", counted(self.counts.len(), "count"))

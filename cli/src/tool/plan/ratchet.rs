@@ -10,9 +10,9 @@ use super::super::arguments::Syntax;
 use super::super::failure::Failure;
 use super::super::json::Value;
 use super::super::refused::{self, Refused};
-use super::super::store::RATCHET;
+use super::super::store::{CHUNKS, RATCHET};
 use super::super::text::{counted, grouped, wrapped};
-use super::counts::Plan;
+use super::counts::{COUNTS, Plan};
 use super::table::Table;
 
 const SYNTAX: Syntax = Syntax {
@@ -26,8 +26,8 @@ const SYNTAX: Syntax = Syntax {
 pub fn run(arguments: &[OsString], out: &mut dyn Write) -> Result<Status, Failure> {
     let arguments = SYNTAX.read(arguments)?;
     let planned = Planned::of(Plan {
-        counts: arguments.numbers("COUNT")?,
-        chunks: arguments.required_number("--chunks", 0..=u32::MAX)?,
+        counts: arguments.judged_numbers("COUNT", &COUNTS)?,
+        chunks: arguments.judged_number("--chunks", u32::MAX, &CHUNKS)?,
     });
     match arguments.has("--json") {
         true => writeln!(out, "{}", planned.json())?,
