@@ -8,12 +8,13 @@ use std::io::{self, Write};
 use std::process::ExitCode;
 
 use tool::failure::Failure;
-use tool::output;
+use tool::{output, signals};
 
 /// Bad usage, an unreadable file or an output that can't be written.
 const FAILED: u8 = 2;
 
 fn main() -> ExitCode {
+    signals::ignore_size_limit();
     let arguments: Vec<OsString> = env::args_os().skip(1).collect();
     match answer(&arguments) {
         Ok(status) => ExitCode::from(status as u8),

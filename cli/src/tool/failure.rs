@@ -49,7 +49,10 @@ impl fmt::Display for Failure {
             }
             Failure::File(message) => writeln!(formatter, "pahyndoi: {message}"),
             Failure::Output(error) => {
-                writeln!(formatter, "pahyndoi: cannot write the output: {error}")
+                writeln!(
+                    formatter,
+                    "pahyndoi: cannot write to standard output: {error}"
+                )
             }
         }
     }

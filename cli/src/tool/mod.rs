@@ -26,6 +26,7 @@ mod plan;
 mod reading;
 mod refused;
 mod set;
+pub mod signals;
 mod store;
 mod text;
 mod verdict;

@@ -10,7 +10,7 @@ use super::closed;
 /// rest is dropped: the exit status is still the command's.
 pub fn stdout() -> io::Result<BufWriter<Pipe<File>>> {
     if closed::at_start() {
-        return Err(io::Error::other("standard output is closed"));
+        return Err(io::Error::other("it is closed"));
     }
     // `Stdout` itself hides the error of an output that is open to reading alone.
     let descriptor = io::stdout().as_fd().try_clone_to_owned()?;

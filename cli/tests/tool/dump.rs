@@ -117,7 +117,7 @@ fn full_disk() {
     assert_eq!(output.status.code(), Some(2));
     let error = String::from_utf8(output.stderr).unwrap();
     assert!(
-        error.starts_with("pahyndoi: cannot write the output: "),
+        error.starts_with("pahyndoi: cannot write to standard output: "),
         "{error}"
     );
 }

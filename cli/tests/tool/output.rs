@@ -7,7 +7,7 @@ use crate::material::{ENTRY, small};
 use crate::random::Random;
 use crate::run::{Run, command, run, run_by};
 
-const CANNOT_WRITE: &str = "pahyndoi: cannot write the output: ";
+const CANNOT_WRITE: &str = "pahyndoi: cannot write to standard output: ";
 
 fn small_folder(name: &str) -> Folder {
     let folder = Folder::new(&format!("output/{name}"));
@@ -64,7 +64,7 @@ fn closed() {
     let folder = small_folder("closed");
     for (arguments, _) in arguments(&folder) {
         let error = run_by("exec \"$@\" >&-", &arguments).failed();
-        let expected = format!("{CANNOT_WRITE}standard output is closed\n");
+        let expected = format!("{CANNOT_WRITE}it is closed\n");
         assert_eq!(error, expected, "{arguments:?}");
         let run = run_by("exec \"$@\" <&- >&- 2>&-", &arguments);
         assert_eq!(run.status, Some(2), "{arguments:?}");
