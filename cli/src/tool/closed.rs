@@ -17,9 +17,9 @@ unsafe extern "C" {
 
 static CLOSED: AtomicBool = AtomicBool::new(false);
 
-/// The C library calls what stands in this section before `main`.
+/// Linux's C libraries call what stands in this section before `main`.
 #[used]
-#[unsafe(link_section = ".init_array")]
+#[cfg_attr(target_os = "linux", unsafe(link_section = ".init_array"))]
 static BEFORE_MAIN: extern "C" fn() = ask;
 
 extern "C" fn ask() {

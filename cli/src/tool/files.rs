@@ -1,6 +1,6 @@
 //! Reading and writing whole files.
 
-use std::fs::{self, File};
+use std::fs::{self, File, Metadata};
 use std::io::{ErrorKind, Read};
 use std::os::unix::fs::MetadataExt;
 use std::path::Path;
@@ -48,43 +48,52 @@ pub fn are_same(one: &Path, other: &Path) -> bool {
     place(one).is_some_and(|one| place(other) == Some(one))
 }
 
+/// Whether these bytes are all that the file at the path holds.
+pub fn holds(path: &Path, bytes: &[u8]) -> bool {
+    let as_long = |metadata: Metadata| metadata.is_file() && metadata.len() == bytes.len() as u64;
+    fs::metadata(path).is_ok_and(as_long) && fs::read(path).is_ok_and(|held| held == bytes)
+}
+
 /// Writes a new file, readable to its owner alone: it may hold keys. If `force`
 /// says so, it takes the place of a file that is there. Where it can't be
 /// written whole nothing of it stays, and what was there stays as it was.
 pub fn write(path: &Path, bytes: &[u8], force: bool) -> Result<(), Failure> {
-    let replaced = force && is_file(path)?;
-    let cannot_write = |error| cannot("write", path, &error);
-    let folder = writing::open_folder(path).map_err(cannot_write)?;
-    let written = match replaced {
+    let written = match force && is_replaceable(path)? {
         true => writing::replace(path, bytes),
         false => writing::create(path, bytes),
     };
-    written.map_err(cannot_write)?;
-    writing::sync_folder(&folder).map_err(|error| {
+    written.map_err(|error| cannot("write", path, &error))?;
+    writing::sync_folder(path).map_err(|error| {
         let reason = format!("is written, but its folder cannot be synced: {error}");
         Failure::file(path, reason)
     })
 }
 
-/// Whether a regular file is there. Nothing else is ever replaced: no device,
-/// and nothing behind a link.
-fn is_file(path: &Path) -> Result<bool, Failure> {
-    let kind = match fs::symlink_metadata(path) {
+/// Whether a file is there that may be replaced; an error if something else is.
+fn is_replaceable(path: &Path) -> Result<bool, Failure> {
+    let metadata = match fs::symlink_metadata(path) {
         Err(error) if error.kind() == ErrorKind::NotFound => return Ok(false),
         Err(error) => return Err(cannot("write", path, &error)),
-        Ok(metadata) => metadata.file_type(),
+        Ok(metadata) => metadata,
     };
-    let what = if kind.is_file() {
-        return Ok(true);
-    } else if kind.is_symlink() {
-        "a link"
+    let left = |what| Failure::file(path, format!("is {what}, and is left as it is"));
+    why_left(&metadata).map_or(Ok(true), |what| Err(left(what)))
+}
+
+/// What is never replaced: a device, what is behind a link, and a file that
+/// somebody has guarded, which a rename would not ask about.
+fn why_left(metadata: &Metadata) -> Option<&'static str> {
+    let kind = metadata.file_type();
+    if kind.is_symlink() {
+        Some("a link")
     } else if kind.is_dir() {
-        "a folder"
+        Some("a folder")
+    } else if !kind.is_file() {
+        Some("no regular file")
     } else {
-        "no regular file"
-    };
-    let reason = format!("is {what}, and is left as it is");
-    Err(Failure::file(path, reason))
+        let guarded = metadata.permissions().readonly();
+        guarded.then_some("write-protected")
+    }
 }
 
 pub fn is_there(path: &Path) -> Failure {

@@ -78,15 +78,20 @@ fn check_equal(keys: &[u8]) -> Result<(), String> {
         numbers.entry(chunk).or_default().push(number);
     }
     let equal = numbers.into_values().filter(|numbers| numbers.len() > 1);
-    // The least list is the one with the least first number.
-    match equal.min() {
-        None => Ok(()),
-        Some(numbers) => Err(format!(
-            "chunks {} are equal: with one not burned yet, what a burned one sealed could be \
-             forged",
-            listed(&numbers)
-        )),
-    }
+    let mut groups: Vec<Vec<usize>> = equal.collect();
+    groups.sort();
+    let Some((first, others)) = groups.split_first() else {
+        return Ok(());
+    };
+    let others = match others.len() {
+        0 => String::new(),
+        more => format!(", as are those of {}", counted(more, "other group")),
+    };
+    Err(format!(
+        "chunks {} are equal{others}: with one not burned yet, what a burned one sealed could be \
+         forged",
+        listed(first)
+    ))
 }
 
 /// Two numbers or more: the first of them, and how many more there are.

@@ -2,6 +2,7 @@
 
 use std::ffi::OsString;
 use std::io::Write;
+use std::path::Path;
 
 use super::Status;
 use super::arguments::{Arguments, Syntax};
@@ -32,15 +33,8 @@ const SYNTAX: Syntax = Syntax {
 pub fn run(arguments: &[OsString], out: &mut dyn Write) -> Result<Status, Failure> {
     let arguments = SYNTAX.read(arguments)?;
     let header = header(&arguments)?;
-    let keys_path = arguments.required_path("--keys")?;
     let store_path = arguments.required_path("--out")?;
-    if files::are_same(keys_path, store_path) {
-        let reason = "is the key file itself, and is left as it is";
-        return Err(Failure::file(store_path, reason));
-    }
-    let keys = files::read(keys_path)?;
-    let checked = keys::check(&keys, header.chunks as usize);
-    checked.map_err(|reason| Failure::file(keys_path, reason))?;
+    let keys = keys_beside(store_path, &arguments, header.chunks as usize)?;
     let store = [header.to_bytes(), keys].concat();
     files::write(store_path, &store, arguments.has("--force"))?;
     writeln!(
@@ -56,6 +50,22 @@ pub fn run(arguments: &[OsString], out: &mut dyn Write) -> Result<Status, Failur
             .map_or(String::new(), |set| format!("; {set}")),
     )?;
     Ok(Status::Done)
+}
+
+/// The key bytes of so many chunks, which the store is not to be written over:
+/// the file that was named, or that they came from through a pipe.
+fn keys_beside(store: &Path, arguments: &Arguments, chunks: usize) -> Result<Vec<u8>, Failure> {
+    let path = arguments.required_path("--keys")?;
+    let is_left = |what| Failure::file(store, format!("{what}, and is left as it is"));
+    if files::are_same(path, store) {
+        return Err(is_left("is the key file itself"));
+    }
+    let keys = files::read(path)?;
+    keys::check(&keys, chunks).map_err(|reason| Failure::file(path, reason))?;
+    match files::holds(store, &keys) {
+        true => Err(is_left("has the very bytes of the keys")),
+        false => Ok(keys),
+    }
 }
 
 fn header(arguments: &Arguments) -> Result<Header, Failure> {

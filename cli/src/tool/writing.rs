@@ -1,4 +1,5 @@
-//! Files that come to be whole and on the disk, or not at all.
+//! Files that are synced before they count as written. A failure leaves nothing
+//! of them.
 
 use std::fs::{self, File, OpenOptions};
 use std::io::{self, ErrorKind, Write};
@@ -49,23 +50,22 @@ fn remove(path: &Path) {
     let _ = fs::remove_file(path);
 }
 
-/// The folder of the path, which [`sync_folder`] is to be handed: what can't be
-/// synced later is better known before anything is written.
-pub fn open_folder(path: &Path) -> io::Result<File> {
-    File::open(path.with_file_name("."))
-}
-
 /// A new name outlasts a loss of power if its folder is synced. Some file
-/// systems can't do that, and there is nothing to be done about it.
-pub fn sync_folder(folder: &File) -> io::Result<()> {
-    match folder.sync_all() {
+/// systems can't do that, and a folder may be closed to reading; there is
+/// nothing to be done about it.
+pub fn sync_folder(path: &Path) -> io::Result<()> {
+    let folder = File::open(path.with_file_name("."));
+    match folder.and_then(|folder| folder.sync_all()) {
         Err(error) if cannot_sync(error.kind()) => Ok(()),
         result => result,
     }
 }
 
 fn cannot_sync(kind: ErrorKind) -> bool {
-    matches!(kind, ErrorKind::InvalidInput | ErrorKind::Unsupported)
+    matches!(
+        kind,
+        ErrorKind::InvalidInput | ErrorKind::Unsupported | ErrorKind::PermissionDenied
+    )
 }
 
 #[cfg(test)]
@@ -85,8 +85,13 @@ mod tests {
 
     #[test]
     fn only_what_cannot_be_synced_at_all_is_passed_over() {
-        assert!(cannot_sync(ErrorKind::InvalidInput));
-        assert!(cannot_sync(ErrorKind::Unsupported));
+        for kind in [
+            ErrorKind::InvalidInput,
+            ErrorKind::Unsupported,
+            ErrorKind::PermissionDenied,
+        ] {
+            assert!(cannot_sync(kind));
+        }
         for kind in [ErrorKind::StorageFull, ErrorKind::Other] {
             assert!(!cannot_sync(kind));
         }

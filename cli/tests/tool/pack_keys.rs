@@ -97,26 +97,33 @@ fn chunks_of_zeros_are_all_named() {
     assert_refused("zeros", &[0; 1024 * CHUNK], "1024", all);
 }
 
-/// Of several groups of equal chunks the one that begins first is named.
+/// Of several groups of equal chunks the one that begins first is listed.
 #[test]
 fn equal_chunks_are_named() {
     let two_groups = with(keys(1024), &[700, 900], [9; CHUNK]);
     let two_groups = with(two_groups, &[3, 1023, 8], [255; CHUNK]);
     let eight = [1, 2, 3, 4, 5, 6, 7, 8];
     let wrong = [
-        (with(keys(1024), &[0, 1], [7; CHUNK]), "0 and 1"),
-        (two_groups, "3, 8 and 1023"),
+        (with(keys(1024), &[0, 1], [7; CHUNK]), "0 and 1 are equal"),
+        (
+            two_groups,
+            "3, 8 and 1023 are equal, as are those of 1 other group",
+        ),
+        (
+            keys(512).repeat(2),
+            "0 and 512 are equal, as are those of 511 other groups",
+        ),
         (
             with(keys(1024), &eight, [7; CHUNK]),
-            "1, 2, 3, 4, 5, 6, 7 and 8",
+            "1, 2, 3, 4, 5, 6, 7 and 8 are equal",
         ),
         (
             vec![7; 1024 * CHUNK],
-            "0, 1, 2, 3, 4, 5, 6, 7 and 1,016 more",
+            "0, 1, 2, 3, 4, 5, 6, 7 and 1,016 more are equal",
         ),
     ];
-    for (keys, numbers) in wrong {
-        let reason = format!("chunks {numbers} are equal: {WHY}");
+    for (keys, words) in wrong {
+        let reason = format!("chunks {words}: {WHY}");
         assert_refused("equal", &keys, "1024", &reason);
     }
 }

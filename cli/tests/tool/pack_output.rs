@@ -6,7 +6,7 @@ use std::process::{Command, Output, Stdio};
 
 use crate::folder::Folder;
 use crate::pack::{NONE, arguments, folder, keys, pack};
-use crate::run::{command, joined, run};
+use crate::run::{command, joined, run, run_by};
 
 const STORE_LENGTH: usize = 146;
 const KEYS: &str = "is the key file itself, and is left as it is";
@@ -37,7 +37,7 @@ fn packed_behind(script: &str, folder: &Folder, more: &[&str]) -> Output {
 
 /// Packs where files can't grow, as on a full disk.
 fn failed_to_write(folder: &Folder, more: &[&str]) {
-    let output = packed_behind("trap '' XFSZ; ulimit -f 0", folder, more);
+    let output = packed_behind("ulimit -f 0", folder, more);
     let error = String::from_utf8(output.stderr).expect("UTF-8");
     assert_eq!(output.status.code(), Some(2));
     assert!(
@@ -181,6 +181,33 @@ fn keys_on_standard_input_are_not_written_over() {
     assert_eq!(folder.read("auditor.store"), keys(4));
 }
 
+/// Of keys through a pipe only the bytes tell from which file they are.
+#[test]
+fn keys_through_a_pipe_are_not_written_over() {
+    let folder = folder("same-bytes", &keys(4));
+    let out = folder.write("auditor.store", &keys(4));
+    let arguments = arguments(&folder, ("--keys", "/dev/stdin"), &["--force"]);
+    let error = run_by(&format!("cat '{out}' | \"$@\""), &arguments).failed();
+    let words = "has the very bytes of the keys, and is left as it is";
+    assert_eq!(error, format!("pahyndoi: {out}: {words}\n"));
+    assert_eq!(folder.read("auditor.store"), keys(4));
+}
+
+/// A rename would not ask about it.
+#[test]
+fn protected_files_are_left_alone() {
+    let folder = folder("protected", &keys(4));
+    let path = folder.write("auditor.store", b"old");
+    for mode in [0o400, 0o444] {
+        fs::set_permissions(&path, Permissions::from_mode(mode)).unwrap();
+        let error = pack(&folder, NONE, &["--force"]).failed();
+        let words = "is write-protected, and is left as it is";
+        assert_eq!(error, format!("pahyndoi: {path}: {words}\n"));
+        assert_eq!(folder.read("auditor.store"), b"old");
+    }
+    assert_eq!(names(&folder), ["auditor.store", "keys.bin"]);
+}
+
 /// Nothing is written through a link, be there a file at its end or not.
 #[test]
 fn links_are_left_alone() {
@@ -268,7 +295,7 @@ fn places_that_are_not_there() {
 #[test]
 fn help_says_what_force_does() {
     let text = joined(&run(&["pack", "--help"]).ended(0));
-    for words in ["a new file, its owner's alone", "is left as it is"] {
+    for words in ["a new file, its owner's alone", "are left as they are"] {
         assert!(text.contains(words), "{text}");
     }
 }
