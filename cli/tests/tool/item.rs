@@ -1,11 +1,9 @@
 //! `pahyndoi item`, its answer, its refusals by 24 and its arguments. The
 //! audit's refusals are in `refusals.rs`.
 
-use std::process::Stdio;
-
 use crate::folder::Folder;
 use crate::material::{ENTRY, FILLER, sealed, small, store};
-use crate::run::{assert_narrow, command, joined, run};
+use crate::run::{assert_narrow, joined, run};
 
 const FLAGS: [(&str, &str); 5] = [
     ("--device", "device.store"),
@@ -254,22 +252,4 @@ fn missing_file() {
     let none = folder.path("none");
     let error = folder.item("1", "0", &["--logs", &none]).failed();
     assert_eq!(error, format!("pahyndoi: {none}: no such file or folder\n"));
-}
-
-/// A reader that leaves early is no error, and the status is the lookup's.
-#[test]
-fn closed_pipe() {
-    let folder = small_folder("pipe");
-    for (offset, status) in [("0", 0), ("30", 1)] {
-        let arguments = ["item", folder.whole(), "--phase=1", "--offset", offset];
-        let mut child = command(&arguments)
-            .stdout(Stdio::piped())
-            .stderr(Stdio::piped())
-            .spawn()
-            .expect("the tool runs");
-        drop(child.stdout.take());
-        let output = child.wait_with_output().expect("the tool ends");
-        assert_eq!(output.status.code(), Some(status));
-        assert!(output.stderr.is_empty());
-    }
 }

@@ -84,25 +84,25 @@ fn closed_before_files_are_made() {
     }
 }
 
-#[test]
-fn open_for_reading_alone() {
-    let folder = small_folder("reading");
+/// One line says so, whatever the command, with standard output so.
+fn assert_cannot_write(name: &str, redirected: &str) {
+    let folder = small_folder(name);
     for (arguments, _) in arguments(&folder) {
-        let error = run_by("exec \"$@\" 1</dev/null", &arguments).failed();
+        let error = run_by(&format!("exec \"$@\" {redirected}"), &arguments).failed();
         assert!(error.starts_with(CANNOT_WRITE), "{error}");
         assert_eq!(error.lines().count(), 1, "{error}");
     }
 }
 
+#[test]
+fn open_for_reading_alone() {
+    assert_cannot_write("reading", "1</dev/null");
+}
+
 #[cfg(target_os = "linux")]
 #[test]
 fn full() {
-    let folder = small_folder("full");
-    for (arguments, _) in arguments(&folder) {
-        let error = run_by("exec \"$@\" >/dev/full", &arguments).failed();
-        assert!(error.starts_with(CANNOT_WRITE), "{error}");
-        assert_eq!(error.lines().count(), 1, "{error}");
-    }
+    assert_cannot_write("full", ">/dev/full");
 }
 
 /// Somebody chose to have no output, with `/dev/null` open to writing alone or

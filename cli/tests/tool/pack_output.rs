@@ -16,6 +16,14 @@ fn mode(folder: &Folder, name: &str) -> u32 {
     metadata.permissions().mode() & 0o7777
 }
 
+/// A folder with keys, and with a store of this mode.
+fn with_old_store(name: &str, mode: u32) -> Folder {
+    let folder = folder(name, &keys(4));
+    let path = folder.write("auditor.store", b"old");
+    fs::set_permissions(path, Permissions::from_mode(mode)).expect("a mode is set");
+    folder
+}
+
 /// The names of what is in the folder, in order.
 fn names(folder: &Folder) -> Vec<String> {
     let entries = fs::read_dir(folder.whole()).expect("a folder");
@@ -100,10 +108,7 @@ fn store_that_cannot_be_written_whole_is_removed() {
 
 #[test]
 fn old_store_outlasts_a_write_that_fails() {
-    let folder = folder("outlasts", &keys(4));
-    folder.write("auditor.store", b"old");
-    let permissions = Permissions::from_mode(0o640);
-    fs::set_permissions(folder.path("auditor.store"), permissions).unwrap();
+    let folder = with_old_store("outlasts", 0o640);
     failed_to_write(&folder, &["--force"]);
     assert_eq!(folder.read("auditor.store"), b"old");
     assert_eq!(mode(&folder, "auditor.store"), 0o640);
@@ -119,10 +124,7 @@ fn store_is_its_owners_alone() {
 
 #[test]
 fn forced_store_is_its_owners_alone() {
-    let folder = folder("forced-mode", &keys(4));
-    folder.write("auditor.store", b"old");
-    let permissions = Permissions::from_mode(0o644);
-    fs::set_permissions(folder.path("auditor.store"), permissions).unwrap();
+    let folder = with_old_store("forced-mode", 0o644);
     pack(&folder, NONE, &["--force"]).ended(0);
     assert_eq!(mode(&folder, "auditor.store"), 0o600);
 }
@@ -196,16 +198,15 @@ fn keys_through_a_pipe_are_not_written_over() {
 /// A rename would not ask about it.
 #[test]
 fn protected_files_are_left_alone() {
-    let folder = folder("protected", &keys(4));
-    let path = folder.write("auditor.store", b"old");
     for mode in [0o400, 0o444] {
-        fs::set_permissions(&path, Permissions::from_mode(mode)).unwrap();
+        let folder = with_old_store("protected", mode);
+        let path = folder.path("auditor.store");
         let error = pack(&folder, NONE, &["--force"]).failed();
         let words = "is write-protected, and is left as it is";
         assert_eq!(error, format!("pahyndoi: {path}: {words}\n"));
         assert_eq!(folder.read("auditor.store"), b"old");
+        assert_eq!(names(&folder), ["auditor.store", "keys.bin"]);
     }
-    assert_eq!(names(&folder), ["auditor.store", "keys.bin"]);
 }
 
 /// Nothing is written through a link, be there a file at its end or not.
