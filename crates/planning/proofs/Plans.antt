@@ -1,7 +1,7 @@
 -- A plan that is not refused is within its limits (`limits`). The ratchet said is the least that lasts (`least`), none is said to last just where
 -- nothing does (`nothing`), an empty list needs 1 (`empty-needs-one`), and a plan has one answer (`one-answer`).
 use mathlib.Core.Path.{_≡_, refl, sym, ap, _∙_}
-use mathlib.Core.Bool.{Bool, true, false, true≢false, false≢true}
+use mathlib.Core.Bool.{true, false, true≢false, false≢true}
 use mathlib.Core.Logic.{_⊎_, inl, inr, _↔_, by-cases}
 use mathlib.Core.List.{List, [], _∷_}
 use Prim.Native.Nat.{ℕ, zero, suc, _+_, _≤_, _<_}
@@ -12,7 +12,7 @@ use lib.ListN.{length, getD}
 use borrow.Author.Tests.{ltb-false, eq-eqb, ne-eqb, le-leb, lt-leb}
 use Rattle.scheme.specs.Rules.{outside, someFrom, refusalBy}
 use Rattle.scheme.specs.Store.{anyOver}
-use Rattle.scheme.proofs.Rules.{none-true, in-range, goes-on, refuses}
+use Rattle.scheme.proofs.Rules.{none-true, in-range, passed, goes-on, refuses}
 use Rattle.scheme.proofs.Scans.{none-over}
 use Rattle.planning.specs.Chunks.{chunksFor, Lasts, badPlan, planRules}
 use Rattle.planning.specs.Ratchet.{firstLasting, leastRatchet, ratchetRefusal, IsLeast, NothingLasts, Planned, Between}
@@ -123,11 +123,7 @@ module _ (counts : List ℕ) (chunks : ℕ) where
 -- what an answer says
 module _ (counts : List ℕ) (chunks : ℕ) where
   not-refused : (r : Ratchet) → Planned counts chunks r → ratchetRefusal r ≡ 0 → badPlan counts chunks ≡ false
-  not-refused r p e = go (badPlan counts chunks) refl
-    where
-      go : (t : Bool) → badPlan counts chunks ≡ t → badPlan counts chunks ≡ false
-      go true bad = absurd (omega (arith, p .refusal, refuses (badPlan counts chunks) 25 [] bad))
-      go false fits = fits
+  not-refused r p e = passed (planRules counts chunks) refl (sym (p .refusal) ∙ e) 25
 
   pub is-least : (n : ℕ) → Planned counts chunks (Least n) → IsLeast counts chunks n
   is-least n p =
