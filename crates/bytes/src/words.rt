@@ -33,7 +33,7 @@ pub fn le32(n: u32) -> [u8; 4]
 }
 
 // The four bytes of a number.
-#[derive(Drop)]
+#[derive(Clone, Copy)]
 pub struct FourBytes(pub u8, pub u8, pub u8, pub u8);
 
 pub fn four_bytes(n: u32) -> FourBytes

@@ -1,5 +1,7 @@
 // Runs a script of calls through the sealer, the audit, the lookups and the plans and writes a line for each call: what it answered, and
 // digests of all it may change.
+#![tactic(auto)]
+
 ghost use Rattle.std.specs.Prelude.{◌≡◌, length};
 
 mod calls;

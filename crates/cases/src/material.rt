@@ -7,7 +7,7 @@ use layout::HEADER_LENGTH;
 use scheme::{ChunkNumber, RatchetOffset, State};
 
 // The state, and how much of each memory is lent to a call.
-#[derive(Drop)]
+#[derive(Clone, Copy)]
 pub struct View {
     pub state: State,
     pub store: usize,

@@ -14,7 +14,7 @@ use scheme::Header;
 use scheme::ranges::out_of_range;
 
 // What reading bytes as a key store finds: the header of a good store, or that the store is bad.
-#[derive(Drop)]
+#[derive(Clone, Copy)]
 pub enum Reading {
     Store(Header),
     Bad,

@@ -1,4 +1,6 @@
 // The compression of one block (FIPS 180-4, 6.2.2), and of a run of blocks where they lie.
+#![tactic(auto)]
+
 ghost use Rattle.std.specs.Prelude.{◌≡◌, ℕ, suc, ◌+◌, ◌*◌, ◌/◌, ◌<◌, ◌≤◌, List, length, slice_index};
 ghost use Rattle.compression.specs.Fips as Fips;
 ghost use Rattle.compression.specs.Fips.{◌⊞◌};
@@ -22,7 +24,7 @@ const K: [u32; 64] = [
 ];
 
 // The working variables, and the last 16 words of the schedule as far as it is computed.
-#[derive(Drop)]
+#[derive(Clone, Copy)]
 pub struct Working {
     pub s: Words,
     pub w: [u32; 16],

@@ -7,7 +7,7 @@ ghost use Rattle.hmac.specs.Keyed.{Keyed};
 use sha256::state::{Sha256, first_block};
 
 // The hash states that have absorbed the key's inner and outer block, the inner one with the message so far behind it.
-#[derive(Drop)]
+#[derive(Clone, Copy)]
 pub struct Hmac {
     pub inner: Sha256,
     pub outer: Sha256,

@@ -1,5 +1,7 @@
 // HMAC-SHA-256 (RFC 2104), of a wanted length: a keyed state that takes a message part after part, and a call that is handed key and message
 // whole.
+#![tactic(auto)]
+
 ghost use Rattle.std.specs.Prelude.{◌≡◌, replicate};
 ghost use Rattle.hmac.specs.Call.{Tags};
 
@@ -9,7 +11,7 @@ use keyed::tag;
 use sha256::LENGTH_LIMIT;
 
 // How a call went: done, or refused because a message or a key is too long, or because the length wanted is outside 16 to 32.
-#[derive(Drop)]
+#[derive(Clone, Copy)]
 pub enum Outcome {
     Done,
     TooLong,
@@ -17,7 +19,7 @@ pub enum Outcome {
 }
 
 // The outcome, and 32 bytes: the tag, as long as wanted, with zeros behind it, or zeros alone where the call is refused.
-#[derive(Drop)]
+#[derive(Clone, Copy)]
 pub struct Answer {
     pub outcome: Outcome,
     pub bytes: [u8; 32],

@@ -1,4 +1,6 @@
 // Open, append, close, restart and the plans with an answer of one word.
+#![tactic(auto)]
+
 pub mod answers;
 pub mod plans;
 pub mod sealing;

@@ -7,7 +7,7 @@ use crate::answers::{code, refused_code};
 use scheme::{Outcome, Sealed, State};
 
 // The answer in one word, and the state that the call gives.
-#[derive(Drop)]
+#[derive(Clone, Copy)]
 pub struct Packed {
     pub code: u64,
     pub state: State,

@@ -1,4 +1,6 @@
 // What other languages call: built as a static library, declared in include/pahyndoi.h.
+#![tactic(auto)]
+
 ghost use Rattle.std.specs.Prelude.{◌≡◌};
 ghost use Rattle.pahyndoi.specs.Hash.{Hashed, Tagged};
 ghost use Rattle.packed.specs.Surface.{Opened, Appended, Closed, Restarted};

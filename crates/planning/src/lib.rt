@@ -1,4 +1,6 @@
 // What a card needs before it is packed: the least ratchet with which its chunks last for the entries to come.
+#![tactic(auto)]
+
 ghost use Rattle.std.specs.Prelude.{◌≡◌, false};
 ghost use Rattle.planning.specs.Chunks.{bad_plan};
 ghost use Rattle.planning.specs.Ratchet.{Planned, Between};
@@ -19,7 +21,7 @@ const MOST_CHUNKS: u32 = 1024;
 const LARGEST_RATCHET: u32 = 256;
 
 // What is said of a plan: the least ratchet that lasts, that none does, or refused by 25, its only check.
-#[derive(Drop)]
+#[derive(Clone, Copy)]
 pub enum Ratchet {
     Least(u32),
     NoneLasts,

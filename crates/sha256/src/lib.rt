@@ -1,4 +1,6 @@
 // SHA-256 (FIPS 180-4): a hash state that takes a message part after part, and a call that is handed it whole.
+#![tactic(auto)]
+
 ghost use Rattle.sha256.specs.Call.{Hashes};
 
 pub mod state;
@@ -6,14 +8,14 @@ pub mod state;
 use state::Sha256;
 
 // How a call went: done, or refused because the message is too long.
-#[derive(Drop)]
+#[derive(Clone, Copy)]
 pub enum Outcome {
     Done,
     TooLong,
 }
 
 // The outcome, and the 32 bytes of the digest, zeros where the call is refused.
-#[derive(Drop)]
+#[derive(Clone, Copy)]
 pub struct Answer {
     pub outcome: Outcome,
     pub bytes: [u8; 32],

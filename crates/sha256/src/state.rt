@@ -7,7 +7,7 @@ use compression::blocks;
 use compression::words::Words;
 
 // The words after the whole blocks, the bytes after them with zeros behind them, and the length so far.
-#[derive(Drop)]
+#[derive(Clone, Copy)]
 pub struct Sha256 {
     pub words: Words,
     pub block: [u8; 64],

@@ -1,4 +1,6 @@
 // What the benchmark times, under C names: the tests on bytes, by words and by single bytes.
+#![tactic(auto)]
+
 ghost use Rattle.std.specs.Prelude.{◌≡◌};
 ghost use Rattle.scheme.specs.Bytes.{all_zero, same_bytes};
 

@@ -3,6 +3,8 @@
 // the additional ones within the limit), RFC 4231 for HMAC-SHA-256 (all seven cases, case 5 truncated to 128 bits, and case 2 with tags of
 // other lengths), for the lengths around a block's end the digests that Python's hashlib (OpenSSL) gave for the bytes 0, 1, 2, .., and for
 // the messages of two small stores what Python's hmac gave for docs/FORMAT.md, 3 and 5.
+#![tactic(auto)]
+
 ghost use Rattle.std.specs.Prelude.{◌≡◌, length};
 
 mod messages;
