@@ -2,7 +2,7 @@
 ghost use Rattle.std.specs.Prelude.{◌≡◌, ◌*◌, ◌≤◌, length, take};
 ghost use Rattle.audited.specs.Lengths.{words, Counted};
 
-use bytes::words::read_u32;
+use octets::words::read_u32;
 use scheme::ranges::MAX_PHASES;
 
 // The bytes of a length.

@@ -17,7 +17,7 @@ pub fn word(record: &[u8], at: usize) -> u32 {
     if record.len() - 4 < at {
         return 0;
     }
-    bytes::words::read_u32(record, at)
+    octets::words::read_u32(record, at)
 }
 
 // The number of four bytes at a place, as a length or an index.

@@ -7,7 +7,7 @@ ghost use Rattle.planning.specs.Ratchet.{Planned, Between};
 
 mod counting;
 
-use bytes::memory::any_over;
+use octets::memory::any_over;
 use counting::chunks_for;
 use scheme::ranges::outside;
 

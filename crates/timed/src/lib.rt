@@ -4,8 +4,8 @@
 ghost use Rattle.std.specs.Prelude.{◌≡◌};
 ghost use Rattle.scheme.specs.Bytes.{all_zero, same_bytes};
 
-use bytes::by_bytes::{all_zero_by_bytes, same_by_bytes};
-use bytes::memory::{all_zero, same};
+use octets::by_bytes::{all_zero_by_bytes, same_by_bytes};
+use octets::memory::{all_zero, same};
 
 // Both are equally long and have the same bytes.
 #[unsafe(no_mangle)]
