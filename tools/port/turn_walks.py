@@ -82,6 +82,7 @@ def conv_file(p):
         if o.startswith('.args '): argsub.append((o[5:].strip(), n[5:].strip()))
 
     def body(s):
+        s = re.sub(r"not-(?:true|false) _ (?=\w+(?:\.before)*\.if)", '', s)
         s = re.sub(r"(?:\.before)+", "", s)
         clike = {'c'} | set(re.findall(rf"let ({TOK}) = c(?= in|$)", s, re.M))
         for _ in range(12): clike |= {x for x, y in re.findall(rf"let ({TOK}) = ({TOK})(?= in|$)", s, re.M) if y in clike}
@@ -89,6 +90,7 @@ def conv_file(p):
             root, rest = m[1], m[2]
             parts = rest[1:].split('.')
             outp = []
+            if root in clike and parts[0].endswith('_lem') and norm(parts[0][:-4]).lower() in steps: parts[0] = parts[0][:-4]
             if root in clike and norm(parts[0]).lower() in armmap:
                 for path_, to in armmap[norm(parts[0]).lower()]:
                     if parts[1:1 + len(path_)] == path_:
@@ -113,15 +115,30 @@ def conv_file(p):
         def place(m):
             q = norm(m[1])
             return 'goal.' + placeof.get(q, '??' + m[1])
-        s = re.sub(r"tie\.((?:After|At|In|Untold|Start)(?:-[^\s(){},;→]+)?)(?: invariant-\S+)?(?: decreases-\S+)?", place, s)
+        s = re.sub(r"tie\.((?:(?:After|At|In|Untold|Start)(?:-[^\s(){},;→]+)?|Then\d+|Else\d+))(?: invariant-\S+)?(?: decreases-\S+)?", place, s)
         return s
 
+    # helpers that only walk back
+    access = []
+    for com, ls, head in ds:
+        m = head and re.search(rf"^{re.escape(head)} (\S+) =\s*(\S+)\s*$", '\n'.join(ls).rstrip(), re.M)
+        if m and re.sub(r"(?:\.before)+", "", m[2]) == m[1] and ': tie.' in ls[0]: access.append(head)
+    def plain(s):
+        for h in access:
+            for _ in range(6):
+                n = re.sub(rf"\((?<![\w-]){re.escape(h)} ({TOK}(?:\.{TOK})*)\)", r"\1", s)
+                n = re.sub(rf"\({re.escape(h)} \(([^()]*)\)\)", r"(\1)", n)
+                n = re.sub(rf"(?<![\w.-]){re.escape(h)} (c(?:\.before)*)(?![\w.-])", r"\1", n)
+                if n == s: break
+                s = n
+        return s
     header = []
     invs, answers, uses, goals = [], [], [], []
     loops = {norm(l[0][0]): (l[0][1], l[1], ch) for l, ch in zip(N['loops'], N['changed'])}
     first_comment = None
     for com, ls, head in ds:
-        txt = '\n'.join(ls).rstrip()
+        txt = plain('\n'.join(ls).rstrip())
+        if head in access: continue
         if head is None:
             if first_comment is None: first_comment = com
             if re.search(r"\.(Statement|Tie|Reads|Lts)\b", txt) : continue

@@ -4,12 +4,12 @@ ghost use Rattle.scheme.specs.Store.{unheaded};
 ghost use Rattle.layout.specs.Header.{header_of};
 ghost use Rattle.codec.specs.Header.{Headed, read_header};
 
-use octets::words::{read_u32, wide};
 use layout::places::chunk_place;
 use layout::{
     DATA_LIMIT, HEADER_LENGTH, LOG_CAPACITY, OWN_SET_HEADER_LENGTH, OWN_SET_KIND, STORE_KIND,
     TAG_LENGTH,
 };
+use octets::words::{read_u32, wide};
 use scheme::Header;
 use scheme::ranges::out_of_range;
 

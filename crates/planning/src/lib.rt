@@ -7,8 +7,8 @@ ghost use Rattle.planning.specs.Ratchet.{Planned, Between};
 
 mod counting;
 
-use octets::memory::any_over;
 use counting::chunks_for;
+use octets::memory::any_over;
 use scheme::ranges::outside;
 
 // The most counts, the largest of them, the most chunks of a card, and the largest ratchet.
