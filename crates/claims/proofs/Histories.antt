@@ -4,7 +4,7 @@ use mathlib.Core.Path.{◌≡◌, refl, sym, ap, subst}
 use mathlib.Core.List.{List, [], ◌∷◌, ◌++◌}
 use Prim.Native.Nat.{ℕ}
 use Rattle.scheme.specs.Sealer.{refused, opens}
-use Rattle.claims.specs.Account.{Call, Open, Append, Close, Restart, Cut, Answer, Fed, Account, started, account_from, account_refusal, account_answer, account_step, answers_from, AllowedBy, Allowed, HistoryFrom}
+use Rattle.claims.specs.Account.{Call, Open, Append, Close, Restart, Cut, Answer, Fed, Account, started, account_from, account_refusal, account_answer, account_step, answers_from, lengths_reached, seal_reached, AllowedBy, Allowed, HistoryFrom}
 use Rattle.claims.specs.Run.{Device, device_started, effect_of, device_after, run_from, run_answers, RunHistoryFrom, History}
 use Rattle.claims.specs.Histories.{ByAccount, MayFollow, PlainBy}
 use Rattle.claims.specs.Claim.{Starts, Kept}
@@ -86,7 +86,7 @@ pub history_on : (f : Fed) (d : Device) (a : Account) (first later : List Call) 
     → RunHistoryFrom f (run_from d first) (account_from f a first) later → RunHistoryFrom f d a (first ++ later)
 unfolding RunHistoryFrom run_from account_from
 history_on f d a [] later before behind = behind
-history_on f d a (call ∷ first) later before behind = (before.0, history_on f _ _ first later before.1 behind)
+history_on f d a (call ∷ first) later before behind = (before.0, history_on f (device_after (effect_of d call)) (account_step f a call) first later before.1 behind)
 
 refused_allowed : (refusal : ℕ) → (refusal ≡ 0 → ⊥) → (a : Account) (call : Call) → AllowedBy refusal a call
 unfolding AllowedBy
@@ -99,13 +99,14 @@ refused_allowed refusal some a Cut = tt
 pub may_follow : (f : Fed) (calls : List Call) → History f calls → MayFollow f calls
 unfolding RunHistoryFrom AllowedBy
 may_follow f calls history =
+    let a = account_from f (started f) calls in
     let on : (later : List Call) → RunHistoryFrom f (run_from (device_started f) calls) (account_from f (started f) calls) later → History f (calls ++ later)
     = λ later. history_on f (device_started f) (started f) calls later history in
     record {
-      refused = λ call some. on (call ∷ []) (refused_allowed _ some _ call, tt);
+      refused = λ call some. on (call ∷ []) (refused_allowed _ some a call, tt);
       cut = on (Cut ∷ []) (tt, tt);
       close = on (Close ∷ []) (tt, tt);
       append = λ free phase bytes. on (Append phase bytes ∷ []) ((λ none. free), tt);
-      reopen = λ first. on (_ ∷ []) ((λ none. (first, refl, refl)), tt);
-      restart = λ some. on (_ ∷ []) ((λ none. (some, refl)), tt);
+      reopen = λ first. on (Open (lengths_reached a) (seal_reached a) ∷ []) ((λ none. (first, refl, refl)), tt);
+      restart = λ some. on (Restart a.waiting ∷ []) ((λ none. (some, refl)), tt);
     }

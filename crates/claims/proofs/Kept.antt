@@ -10,7 +10,7 @@ use Rattle.scheme.specs.Sealer.{opens}
 use Rattle.scheme.proofs.Splice.{splice_none}
 use Rattle.scheme.proofs.Burning.{zeroed}
 use Rattle.claims.specs.Account.{Call, Open, Append, Close, Restart, Cut, Answer, Fed, Account, started, account_step, account_answer, account_from, answers_from, AllowedBy}
-use Rattle.claims.specs.Run.{Device, device_started, effect_of, run_from, run_answers, RunHistoryFrom}
+use Rattle.claims.specs.Run.{Device, device_started, effect_of, run_from, run_answers, RunHistoryFrom, device_after}
 use Rattle.claims.specs.Histories.{PlainBy, PlainFrom, Plain}
 use Rattle.claims.specs.Left.{placed}
 use Rattle.claims.specs.Claim.{Starts, Kept}
@@ -92,7 +92,7 @@ allowed_plain refusal a Cut allowed = tt
 pub history_plain : (f : Fed) (d : Device) (a : Account) (calls : List Call) → RunHistoryFrom f d a calls → PlainFrom f d a calls
 unfolding RunHistoryFrom PlainFrom
 history_plain f d a [] history = tt
-history_plain f d a (call ∷ calls) history = (allowed_plain _ a call history.0, history_plain f _ _ calls history.1)
+history_plain f d a (call ∷ calls) history = (allowed_plain _ a call history.0, history_plain f (device_after (effect_of d call)) (account_step f a call) calls history.1)
 
 module _ (f : Fed) (starts : Starts f) (calls : List Call) where
   abbrev start : Begun f

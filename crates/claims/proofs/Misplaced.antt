@@ -22,7 +22,7 @@ use Rattle.scheme.proofs.Acceptance.MaterialRules.{unrefused}
 use Rattle.scheme.proofs.Acceptance.Items.{for_other, for_restart, for_first, stands_for, restart_holds, item_off}
 use Rattle.scheme.proofs.Acceptance.Walk.{EachFits}
 use Rattle.claims.specs.Account.{Call, Open, Append, Close, Restart, Cut, Fed, Account, started, entry_due, filler_due, restart_due, lengths_reached, step_on, with_item, with_data, with_lost, losing, account_append, account_close, account_restart, after_cut, account_open_rules, account_append_rules, account_close_rules, account_restart_rules, account_refusal, account_done, account_refused, account_step, account_from, AllowedBy, HistoryFrom}
-use Rattle.claims.specs.Run.{Device, device_started, effect_of, run_from, RunHistoryFrom, History}
+use Rattle.claims.specs.Run.{Device, device_started, effect_of, run_from, RunHistoryFrom, History, device_after}
 use Rattle.claims.specs.Histories.{PlainBy, PlainFrom, Plain}
 use Rattle.claims.specs.Left.{store_left, logs_left, seal_file}
 use Rattle.claims.specs.Claim.{own_item, Starts, untouched}
@@ -303,13 +303,13 @@ module _ (f : Fed) where
       → PlainFrom f d a (first ++ (call ∷ []))
   unfolding PlainFrom run_from account_from
   plain_more d a [] call before last = (last, tt)
-  plain_more d a (c ∷ first) call before last = (before.0, plain_more _ _ first call before.1 last)
+  plain_more d a (c ∷ first) call before last = (before.0, plain_more (device_after (effect_of d c)) (account_step f a c) first call before.1 last)
 
   plain_last : (d : Device) (a : Account) (first : List Call) (call : Call) → PlainFrom f d a (first ++ (call ∷ []))
       → PlainBy (effect_of (run_from d first) call).refusal (account_from f a first) call
   unfolding PlainFrom run_from account_from
   plain_last d a [] call plain = plain.0
-  plain_last d a (c ∷ first) call plain = plain_last _ _ first call plain.1
+  plain_last d a (c ∷ first) call plain = plain_last (device_after (effect_of d c)) (account_step f a c) first call plain.1
 
   goes_on : (calls : List Call) → History f calls → (call : Call) → AllowedBy (effect_of (run_from (device_started f) calls) call).refusal (account_from f (started f) calls) call
       → History f (calls ++ (call ∷ []))
