@@ -1,4 +1,3 @@
-use Prim.Native.Nat.{◌-◌}
 use native.Mathlib.Omega.{arith}
 use Rattle.planning.proofs.Plans.{limits}
 use Rattle.planning.proofs.Search.{at_first, goes_down, goes_up, meets}
