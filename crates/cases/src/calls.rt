@@ -1,10 +1,10 @@
 // The calls, each on as much of the memories as the view says, with its line.
 ghost use Rattle.std.specs.Prelude.{◌≡◌, length};
 
-use crate::material::View;
 use crate::memory::{at_most, within};
 use crate::record::{byte, seal_length, size, word};
 use crate::report::{line, write_data, write_found, write_memories, write_ratchet, write_verdict};
+use crate::views::View;
 use std::io;
 use std::io::Write;
 

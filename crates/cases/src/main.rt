@@ -6,14 +6,14 @@ ghost use Rattle.std.specs.Prelude.{◌≡◌, ◌≤◌, length, IfOk};
 
 mod calls;
 mod change;
-mod material;
 mod memory;
 mod record;
 mod report;
+mod views;
 
-use material::View;
 use std::io;
 use std::io::{Read, Write};
+use views::View;
 
 // The bytes of one record of the script.
 const RECORD_LENGTH: usize = 64;
@@ -59,7 +59,7 @@ fn run(
     seal: &mut [u8],
     auditor: &mut [u8],
 ) -> io::Result<()> {
-    let mut view = material::nothing();
+    let mut view = views::nothing();
     let mut at = 0;
     while RECORD_LENGTH <= script.len() - at {
         let end = at + RECORD_LENGTH;
@@ -81,7 +81,7 @@ fn step(
     let operation = record::byte(record, 0);
     let next = match operation {
         0 => report::label(out, view, record)?,
-        1 => material::new(record, store, logs, seal),
+        1 => views::new(record, store, logs, seal),
         2 => calls::open(out, view, record, store, logs, seal)?,
         3 => calls::append(out, view, record, store, logs, seal)?,
         4 => calls::close(out, view, store, logs, seal)?,
