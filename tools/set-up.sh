@@ -28,7 +28,6 @@ look_for() {
     else
         want has_all_of_cargo "cargo 1.$oldest or newer with clippy and rustfmt" cargo-web rust-web-clippy rustfmt-web
         want has_libcrypto "libcrypto's headers" libssl-dev
-        want has_python python3 python3
     fi
 }
 
@@ -42,7 +41,6 @@ has_c() { command -v ar && [[ $(cc -print-file-name=crt1.o) == /* ]]; }
 has_cargo() { in_some_path new_cargo; }
 has_all_of_cargo() { in_some_path all_of_cargo; }
 has_libcrypto() { [ -e /usr/include/openssl/sha.h ]; }
-has_python() { command -v python3; }
 
 new_cargo() { is_new 'cargo 1' "$(cargo --version)"; }
 # Run, for rustup has these commands in PATH even where its toolchain lacks them. rustfmt's version says nothing of Rust's.

@@ -4,6 +4,7 @@
 use std::env;
 use std::fs;
 use std::io;
+use std::iter;
 use std::path::{Path, PathBuf};
 use std::process::{Command, Stdio};
 use std::time::SystemTime;
@@ -22,16 +23,17 @@ pub fn link(name: &str) -> Result<(), String> {
     let root = above
         .find(|folder| folder.join("crates.txt").is_file())
         .ok_or_else(|| format!("no crates.txt above {}", package.display()))?;
-    let folder = root.join("target/staticlib");
+    let proved = root.join("crates").join(name);
+    let folder = proved.join("out");
     let archive = folder.join(format!("lib{name}.a"));
-    let sources = [root.join("crates"), root.join("crates.txt")];
+    let sources = sources(root);
     // The archive stands in the package's own library file, so a new one must
     // have that made again.
     for path in sources.iter().chain([&archive]) {
         println!("cargo::rerun-if-changed={}", path.display());
     }
     if !is_fresh(&archive, &sources) {
-        prove(root, name, &archive)?;
+        prove(&proved, &archive)?;
     }
     println!("cargo::rustc-link-search=native={}", folder.display());
     println!("cargo::rustc-link-lib=static={name}");
@@ -40,6 +42,19 @@ pub fn link(name: &str) -> Result<(), String> {
 
 pub fn variable(name: &str) -> Result<String, String> {
     env::var(name).map_err(|error| format!("{name}: {error}"))
+}
+
+/// What an archive is proved and made of: the crates' list and their sources,
+/// without what `rt` keeps beside these in each crate's folder `out`.
+fn sources(root: &Path) -> Vec<PathBuf> {
+    let crates = fs::read_dir(root.join("crates"));
+    let parts = crates.into_iter().flatten().flatten().flat_map(|entry| {
+        let folder = entry.path();
+        ["src", "specs", "proofs"].map(|part| folder.join(part))
+    });
+    iter::once(root.join("crates.txt"))
+        .chain(parts.filter(|part| part.is_dir()))
+        .collect()
 }
 
 /// Proving again takes long, so an archive newer than all sources stays.
@@ -64,15 +79,15 @@ fn modified(path: &Path) -> Option<SystemTime> {
     fs::symlink_metadata(path).ok()?.modified().ok()
 }
 
-fn prove(root: &Path, name: &str, archive: &Path) -> Result<(), String> {
+fn prove(folder: &Path, archive: &Path) -> Result<(), String> {
     let mut command = Command::new("rt");
-    command.args(["staticlib", name]).current_dir(root);
+    command.arg("lib").current_dir(folder);
     run(&mut command).map_err(|reason| {
         format!(
             "{} is missing or older than its sources in crates/, and \
-             'rt staticlib {name}' in {} did not make it: {reason}",
+             'rt lib' in {} did not make it: {reason}",
             archive.display(),
-            root.display(),
+            folder.display(),
         )
     })?;
     match archive.is_file() {

@@ -3,7 +3,9 @@
 use std::collections::BTreeSet;
 use std::process::Command;
 
-const FOLDER: &str = concat!(env!("CARGO_MANIFEST_DIR"), "/../target/staticlib");
+const FOLDER: &str = concat!(env!("CARGO_MANIFEST_DIR"), "/../crates");
+const PAHYNDOI: &str = "pahyndoi/out/libpahyndoi.a";
+const TIMED: &str = "timed/out/libtimed.a";
 const HEADER: &str = include_str!("../../include/pahyndoi.h");
 
 /// The global symbols of the archive that `nm` lists with this flag.
@@ -22,17 +24,14 @@ fn symbols(archive: &str, flag: &str) -> BTreeSet<String> {
 #[test]
 fn memcpy_and_memset_alone_are_asked_for() {
     let asked_for = ["memcpy", "memset"].map(String::from);
-    assert_eq!(
-        symbols("libpahyndoi.a", "--undefined-only"),
-        asked_for.into()
-    );
+    assert_eq!(symbols(PAHYNDOI, "--undefined-only"), asked_for.into());
 }
 
 #[test]
 fn calls_of_the_header_are_there_and_nothing_else() {
     let declarations = HEADER.lines().filter(|line| line.starts_with("uint"));
     let names = declarations.filter_map(|line| line.split([' ', '(']).nth(1));
-    let defined = symbols("libpahyndoi.a", "--defined-only");
+    let defined = symbols(PAHYNDOI, "--defined-only");
     assert_eq!(defined, names.map(String::from).collect());
 }
 
@@ -41,6 +40,6 @@ fn calls_of_the_header_are_there_and_nothing_else() {
 fn walks_are_in_an_archive_of_their_own_and_nothing_else() {
     let names = ["same", "same_by_bytes", "all_zero", "all_zero_by_bytes"];
     let expected = names.map(|name| format!("pahyndoi_timed_{name}"));
-    assert_eq!(symbols("libtimed.a", "--defined-only"), expected.into());
-    assert_eq!(symbols("libtimed.a", "--undefined-only"), [].into());
+    assert_eq!(symbols(TIMED, "--defined-only"), expected.into());
+    assert_eq!(symbols(TIMED, "--undefined-only"), [].into());
 }

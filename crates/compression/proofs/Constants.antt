@@ -1,6 +1,6 @@
 -- The constants are what the standard says that they represent: one test over the whole table, and the law that turns it into the
 -- rule at each entry.
-use Rattle.std.proofs.Common.{ℕ, zero, suc, ◌+◌, ◌*◌, ◌^◌, ◌<◌, ◌≤◌, Bool, true, false, cond, ◌&&◌, T, ltb, leb, List, [], ◌∷◌, length, get_or, take, le_of_suc-le-suc, not-suc-le-zero, ltb→lt, leb→le}
+use Rattle.std.proofs.Common.{ℕ, zero, suc, ◌+◌, ◌*◌, ◌^◌, ◌<◌, Bool, true, false, cond, ◌&&◌, T, ltb, leb, List, [], ◌∷◌, length, get_or, take, le_of_suc-le-suc, not-suc-le-zero, ltb→lt, leb→le}
 use Rattle.compression.specs.Fips.{K, H₀}
 use Rattle.compression.specs.Constants.{RootBits, no_divisor, primes_to, primes, starting_words}
 

@@ -3,7 +3,7 @@ use Rattle.std.proofs.Common.{◌≡◌, ℕ, zero, suc, ◌+◌, ◌-◌, ◌<�
 use Prim.Native.Nat.{compare}
 use native.Mathlib.Bridge.{le_by_compare, IsLe}
 use lib.ListN.{get_or-append}
-use lib.Seq.{drop-nil, drop-length, drop-append-le}
+use lib.Seq.{drop-length, drop-append-le}
 use Rattle.compression.specs.Fips.{◌⊞◌, σ₀, σ₁, words, schedule, W, K, round, rounds, added, compress}
 use Rattle.compression.specs.Rounds.{entries, slide, Reached}
 use Rattle.compression.specs.declared.words.Words.{Words}

@@ -1,5 +1,5 @@
 -- What FIPS 180-4 says that the constants represent (4.2.2, 5.3.3).
-use Rattle.std.specs.Prelude.{ℕ, zero, suc, ◌+◌, ◌*◌, ◌%◌, ◌^◌, ◌<◌, ◌≤◌, Bool, true, false, cond, not, ◌&&◌, List, [], ◌∷◌, ◌++◌, ◌==◌}
+use Rattle.std.specs.Prelude.{ℕ, zero, suc, ◌+◌, ◌*◌, ◌%◌, ◌^◌, ◌<◌, ◌≤◌, Bool, true, cond, not, ◌&&◌, List, [], ◌∷◌, ◌++◌, ◌==◌}
 use Rattle.compression.specs.Fips.{H₀}
 
 -- k is the first 32 bits of the fractional part of the e-th root of p: some whole number n stands before it

@@ -1,4 +1,4 @@
-use Rattle.std.proofs.Common.{◌≡◌, ◌-◌, ◌/◌, length, refl, ap, ◌∙◌, arith, length-drop, length-take}
+use Rattle.std.proofs.Common.{◌≡◌, ◌/◌, length, refl, ap, ◌∙◌, arith, length-drop, length-take}
 use Rattle.compression.specs.Fips.{K, hashed}
 use Rattle.compression.proofs.Hashed.{block_more}
 use Rattle.compression.proofs.blocks.Goals as goal

@@ -5,19 +5,20 @@ use lib.ListN.{length}
 use Rattle.codec.proofs.Headers.{own_fields, common_fields}
 use Rattle.codec.proofs.header.fields.Goals as goal
 
--- ?? used at [('bounds-store-18', 'After-shared_slice_known-then-store-eq-OWN_SET_KIND-1-unread'), ('read_u32-requires', 'After-wide'), ('read_u32-requires-then-store-eq-OWN_SET_KIND', 'After-read_u32')]
--- the bytes of a set, where the store has one
-set : (c : goal.Then-store-eq-OWN_SET_KIND) → 27 ≤ length c.args.store.now
-set c = c.requires.set c.if-store-eq-OWN_SET_KIND.true
-
 pub bounds-store-18 : goal.bounds-store-18
-bounds-store-18 c = omega (arith, set c)
+bounds-store-18 c =
+    let set : 27 ≤ length c.args.store.now = c.requires.set c.if-store-eq-OWN_SET_KIND.true in
+    omega (arith, set)
 
 pub read_u32-requires : goal.read_u32-requires
-read_u32-requires c = omega (arith, set c)
+read_u32-requires c =
+    let set : 27 ≤ length c.args.store.now = c.requires.set c.if-store-eq-OWN_SET_KIND.true in
+    omega (arith, set)
 
 pub read_u32-requires-then-store-eq-OWN_SET_KIND : goal.read_u32-requires-then-store-eq-OWN_SET_KIND
-read_u32-requires-then-store-eq-OWN_SET_KIND c = omega (arith, set c)
+read_u32-requires-then-store-eq-OWN_SET_KIND c =
+    let set : 27 ≤ length c.args.store.now = c.requires.set c.if-store-eq-OWN_SET_KIND.true in
+    omega (arith, set)
 
 pub returns-then-store-eq-OWN_SET_KIND : goal.returns-then-store-eq-OWN_SET_KIND
 returns-then-store-eq-OWN_SET_KIND c =

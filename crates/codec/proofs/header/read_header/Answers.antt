@@ -15,25 +15,22 @@ returns-then-lacks_header c = no_header _ (sym c.lacks_header.ensures ∙ c.if-l
 pub fields-header-requires : goal.fields-header-requires
 fields-header-requires c = headed _ (sym c.lacks_header.ensures ∙ c.if-lacks_header.false)
 
--- ?? used at [('returns-then-out_of_range', 'Then-out_of_range'), ('returns', 'Else-store-chunk_place')]
--- what is tested of the fields, and the length that the store is to have
-field-test : (c : goal.Then-out_of_range) → bad_fields (header_of c.args.store.now) ≡ c.out_of_range.result
-field-test c = ap bad_fields (sym c.fields-header.ensures) ∙ sym c.out_of_range.ensures
-
--- ?? used at [('returns-then-store-chunk_place', 'Then-store-chunk_place'), ('returns', 'Else-store-chunk_place')]
-size : (c : goal.Then-store-chunk_place) → let st = c.args.store.now in c.chunk_place.result ≡ chunk_place st (chunk_count st)
-size c = c.chunk_place.ensures ∙ ap (λ h. h.header_length + 32 * h.chunks) c.fields-header.ensures
-
 pub returns-then-out_of_range : goal.returns-then-out_of_range
-returns-then-out_of_range c = bad_field _ (field-test c ∙ c.if-out_of_range.true)
+returns-then-out_of_range c =
+    let field_test : bad_fields (header_of c.args.store.now) ≡ c.out_of_range.result = ap bad_fields (sym c.fields-header.ensures) ∙ sym c.out_of_range.ensures in
+    bad_field _ (field_test ∙ c.if-out_of_range.true)
 
 pub returns-then-store-chunk_place : goal.returns-then-store-chunk_place
-returns-then-store-chunk_place c = bad_length _ (λ e. c.if-store-chunk_place.true (e ∙ sym (size c)))
+returns-then-store-chunk_place c =
+    let size : let st = c.args.store.now in c.chunk_place.result ≡ chunk_place st (chunk_count st) = c.chunk_place.ensures ∙ ap (λ h. h.header_length + 32 * h.chunks) c.fields-header.ensures in
+    bad_length _ (λ e. c.if-store-chunk_place.true (e ∙ sym size))
 
 pub returns : goal.returns
 returns c =
+    let field_test : bad_fields (header_of c.args.store.now) ≡ c.out_of_range.result = ap bad_fields (sym c.fields-header.ensures) ∙ sym c.out_of_range.ensures in
+    let size : let st = c.args.store.now in c.chunk_place.result ≡ chunk_place st (chunk_count st) = c.chunk_place.ensures ∙ ap (λ h. h.header_length + 32 * h.chunks) c.fields-header.ensures in
     let ranged = c in
     let checked = ranged in
     ap Store checked.fields-header.ensures ∙
-    good_header _ (sym checked.lacks_header.ensures ∙ checked.if-lacks_header.false) (field-test ranged ∙ c.if-out_of_range.false)
-    (c.if-store-chunk_place.false ∙ size c)
+    good_header _ (sym checked.lacks_header.ensures ∙ checked.if-lacks_header.false) (field_test ∙ c.if-out_of_range.false)
+    (c.if-store-chunk_place.false ∙ size)

@@ -1,5 +1,4 @@
 use mathlib.Core.Path.{refl, sym, ◌∙◌}
-use Prim.Native.Nat.{◌-◌}
 use native.Mathlib.Omega.{arith}
 use Rattle.scheme.proofs.Bytes.{not_all_zero, zero_so_far, none_nonzero}
 use borrow.Author.Rules.{rules}

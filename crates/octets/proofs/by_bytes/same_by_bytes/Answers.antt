@@ -1,5 +1,4 @@
 use mathlib.Core.Path.{refl, sym, ◌∙◌}
-use Prim.Native.Nat.{◌-◌}
 use native.Mathlib.Omega.{arith}
 use Rattle.scheme.proofs.Bytes.{lengths_differ, not_same, same_so_far, none_different}
 use borrow.Author.Rules.{rules}

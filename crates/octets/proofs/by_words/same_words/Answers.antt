@@ -7,7 +7,6 @@ use native.Mathlib.Omega.{arith}
 use lib.ListN.{length, take}
 use Rattle.scheme.specs.Bytes.{same_bytes, part}
 use Rattle.octets.proofs.Parts.{so_many, these_same, same_parts}
-use borrow.Author.Tests.{not-true, not-false}
 use borrow.Author.Rules.{rules}
 use Rattle.octets.proofs.by_words.same_words.Goals as goal
 

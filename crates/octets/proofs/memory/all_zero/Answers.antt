@@ -5,7 +5,6 @@ use native.Mathlib.Omega.{arith}
 use lib.ListN.{length}
 use Rattle.scheme.specs.Bytes.{all_zero, part}
 use Rattle.octets.proofs.Parts.{so_many, this_zero, front_nonzero, front_zero}
-use borrow.Author.Tests.{not-true, not-false}
 use Rattle.octets.proofs.memory.all_zero.Goals as goal
 
 pub returns-then-not-zero_words : goal.returns-then-not-zero_words

@@ -1,5 +1,4 @@
 use mathlib.Core.Path.{sym, ◌∙◌}
-use Prim.Native.Nat.{◌-◌}
 use native.Mathlib.Omega.{arith}
 use Rattle.scheme.proofs.Scans.{over_all, over_here, over_behind, over_none}
 use borrow.Author.Rules.{rules}

@@ -7,7 +7,6 @@ use lib.ListN.{length}
 use Rattle.scheme.specs.Bytes.{same_bytes, part}
 use Rattle.scheme.proofs.Bytes.{lengths_differ}
 use Rattle.octets.proofs.Parts.{so_many, these_same, front_other, front_same}
-use borrow.Author.Tests.{not-true, not-false}
 use Rattle.octets.proofs.memory.same.Goals as goal
 
 pub returns-then-n-b : goal.returns-then-n-b

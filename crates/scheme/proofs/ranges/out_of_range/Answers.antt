@@ -1,7 +1,6 @@
 -- `scheme::ranges::out_of_range` meets its contract: each answer `true` stands behind one of the conditions.
 use mathlib.Core.Path.{sym, ◌∙◌}
 use mathlib.Core.List.{[], ◌∷◌}
-use Rattle.scheme.specs.Rules.{outside}
 use Rattle.scheme.specs.Store.{out_of_range}
 use Rattle.scheme.proofs.Rules.{any_at, last_decides, ◌also◌}
 use Rattle.scheme.proofs.ranges.out_of_range.Goals as goal

@@ -1,4 +1,4 @@
-use Rattle.std.proofs.Common.{◌≡◌, ℕ, ◌+◌, ◌-◌, List, length, get_or, set, ap, ◌∙◌, add-one, arith, rules}
+use Rattle.std.proofs.Common.{◌≡◌, ℕ, ◌+◌, List, length, get_or, set, ap, ◌∙◌, add-one, arith, rules}
 use lib.Seq.{paste, paste-zero, paste-suc}
 use Rattle.sha256.proofs.state.put_word.Goals as goal
 

@@ -1,5 +1,5 @@
 -- The part and the padding behind it fill one block, which follows the message's own (`sha256_with`).
-use Rattle.std.proofs.Common.{rules, ◌≡◌, ℕ, ◌*◌, List, length, set, sym, ap, ◌∙◌, arith}
+use Rattle.std.proofs.Common.{rules, ◌≡◌, ℕ, ◌*◌, List, length, set, sym, ap, ◌∙◌}
 use Rattle.compression.specs.Fips.{big_endian, digest}
 use Rattle.sha256.proofs.Blocks.{over, put, sha256_with}
 use Rattle.sha256.proofs.state.Sha256.finish_with.Goals as goal
