@@ -1,10 +1,12 @@
 // The calls, each on as much of the memories as the view says, with its line.
 ghost use Rattle.std.specs.Prelude.{◌≡◌, length};
 
-use crate::material::View;
 use crate::memory::{at_most, within};
 use crate::record::{byte, seal_length, size, word};
 use crate::report::{line, write_data, write_found, write_memories, write_ratchet, write_verdict};
+use crate::views::View;
+use std::io;
+use std::io::Write;
 
 // The most lengths that a record lends.
 const MAX_LENGTHS: usize = 9;
@@ -19,7 +21,14 @@ const LAST_START: usize = 54;
 // The most data that a record appends.
 const MAX_DATA: usize = 4097;
 
-pub fn open(view: View, record: &[u8], store: &[u8], logs: &[u8], seal: &[u8]) -> View {
+pub fn open(
+    out: &mut impl Write,
+    view: View,
+    record: &[u8],
+    store: &[u8],
+    logs: &[u8],
+    seal: &[u8],
+) -> io::Result<View> {
     let a = within(view.store, store);
     let b = within(view.logs, logs);
     let c = within(view.seal, seal);
@@ -32,16 +41,17 @@ pub fn open(view: View, record: &[u8], store: &[u8], logs: &[u8], seal: &[u8]) -
         &seal[..c],
         seal_length(record),
     );
-    line(b"open", sealed, view, store, logs, seal)
+    line(out, b"open", sealed, view, store, logs, seal)
 }
 
 pub fn append(
+    out: &mut impl Write,
     view: View,
     record: &[u8],
     store: &mut [u8],
     logs: &mut [u8],
     seal: &mut [u8],
-) -> View {
+) -> io::Result<View> {
     let a = within(view.store, store);
     let b = within(view.logs, logs);
     let c = within(view.seal, seal);
@@ -55,18 +65,31 @@ pub fn append(
         byte(record, 1),
         &data[..n],
     );
-    line(b"append", sealed, view, store, logs, seal)
+    line(out, b"append", sealed, view, store, logs, seal)
 }
 
-pub fn close(view: View, store: &[u8], logs: &[u8], seal: &mut [u8]) -> View {
+pub fn close(
+    out: &mut impl Write,
+    view: View,
+    store: &[u8],
+    logs: &[u8],
+    seal: &mut [u8],
+) -> io::Result<View> {
     let a = within(view.store, store);
     let b = within(view.logs, logs);
     let c = within(view.seal, seal);
     let sealed = sealer::close(view.state, &store[..a], &logs[..b], &mut seal[..c]);
-    line(b"close", sealed, view, store, logs, seal)
+    line(out, b"close", sealed, view, store, logs, seal)
 }
 
-pub fn restart(view: View, record: &[u8], store: &mut [u8], logs: &[u8], seal: &mut [u8]) -> View {
+pub fn restart(
+    out: &mut impl Write,
+    view: View,
+    record: &[u8],
+    store: &mut [u8],
+    logs: &[u8],
+    seal: &mut [u8],
+) -> io::Result<View> {
     let a = within(view.store, store);
     let b = within(view.logs, logs);
     let c = within(view.seal, seal);
@@ -77,17 +100,18 @@ pub fn restart(view: View, record: &[u8], store: &mut [u8], logs: &[u8], seal: &
         &mut seal[..c],
         word(record, 4),
     );
-    line(b"restart", sealed, view, store, logs, seal)
+    line(out, b"restart", sealed, view, store, logs, seal)
 }
 
 pub fn audit(
+    out: &mut impl Write,
     view: View,
     record: &[u8],
     store: &[u8],
     logs: &[u8],
     seal: &[u8],
     auditor: &[u8],
-) -> View {
+) -> io::Result<View> {
     let a = within(view.store, store);
     let b = within(view.auditor, auditor);
     let c = within(view.logs, logs);
@@ -101,19 +125,20 @@ pub fn audit(
         &lengths[..n],
         &seal[..d],
     );
-    write_verdict(verdict);
-    write_memories(view, store, logs, seal, auditor)
+    write_verdict(out, verdict)?;
+    write_memories(out, view, store, logs, seal, auditor)
 }
 
 // A lookup is lent what an audit is.
 pub fn lookup(
+    out: &mut impl Write,
     view: View,
     record: &[u8],
     store: &[u8],
     logs: &[u8],
     seal: &[u8],
     auditor: &[u8],
-) -> View {
+) -> io::Result<View> {
     let a = within(view.store, store);
     let b = within(view.auditor, auditor);
     let c = within(view.logs, logs);
@@ -121,6 +146,7 @@ pub fn lookup(
     let lengths = lengths_of(record);
     let n = at_most(MAX_LENGTHS, byte(record, 1) as usize);
     write_lookup(
+        out,
         &store[..a],
         &auditor[..b],
         &logs[..c],
@@ -128,12 +154,13 @@ pub fn lookup(
         &seal[..d],
         byte(record, 2),
         word(record, 8),
-    );
-    write_memories(view, store, logs, seal, auditor)
+    )?;
+    write_memories(out, view, store, logs, seal, auditor)
 }
 
 // What the lookups say of a byte: the item, where its data stand, and the part that has them.
 fn write_lookup(
+    out: &mut impl Write,
     device: &[u8],
     auditor: &[u8],
     logs: &[u8],
@@ -141,21 +168,21 @@ fn write_lookup(
     seal: &[u8],
     phase: u8,
     offset: u32,
-) {
+) -> io::Result<()> {
     let found = lookup::item_at(device, auditor, logs, lengths, seal, phase, offset);
-    write_found(found);
+    write_found(out, found)?;
     let place = lookup::data_place(device, auditor, logs, lengths, seal, phase, offset);
     let part = lookup::data_at(device, auditor, logs, lengths, seal, phase, offset);
-    write_data(place.begin, part);
+    write_data(out, place.begin, part)
 }
 
 // A plan is lent the record's counts and no memory.
-pub fn plan(view: View, record: &[u8]) -> View {
+pub fn plan(out: &mut impl Write, view: View, record: &[u8]) -> io::Result<View> {
     let counts = counts_of(record);
     let n = at_most(MAX_COUNTS, byte(record, 1) as usize);
     let ratchet = planning::least_ratchet(&counts[..n], word(record, 4));
-    write_ratchet(ratchet);
-    view
+    write_ratchet(out, ratchet)?;
+    Ok(view)
 }
 
 // The counts of a record: one at every place but those of the counts that it lists.

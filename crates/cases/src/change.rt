@@ -1,9 +1,9 @@
 // How a record changes one part of what the calls work on.
 ghost use Rattle.std.specs.Prelude.{◌≡◌, length};
 
-use crate::material::View;
 use crate::memory::{at_most, copy, fill, within};
 use crate::record::{byte, seal_length, size, word};
+use crate::views::View;
 use scheme::{ChunkNumber, RatchetOffset, State};
 
 // The most bytes that a record sets, and where it has them.

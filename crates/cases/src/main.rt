@@ -2,67 +2,100 @@
 // digests of all it may change.
 #![tactic(auto)]
 
-ghost use Rattle.std.specs.Prelude.{◌≡◌, length};
+ghost use Rattle.std.specs.Prelude.{◌≡◌, ◌≤◌, length, IfOk};
 
 mod calls;
 mod change;
-mod material;
 mod memory;
 mod record;
 mod report;
+mod views;
 
-use libc::STDIN_FILENO;
-use material::View;
+use std::io;
+use std::io::{Read, Write};
+use views::View;
 
 // The bytes of one record of the script.
 const RECORD_LENGTH: usize = 64;
 
-fn main() {
+fn main(rt: HostRuntime) -> io::Result<()> {
     let mut script = script_memory();
-    let n = io::read_full(STDIN_FILENO, &mut script);
+    let n = read_full(&mut rt.stdin(), &mut script)?;
     let mut store = store_memory();
     let mut logs = log_memory();
     let mut seal = seal_memory();
     let mut auditor = store_memory();
-    run(&script[..n], &mut store, &mut logs, &mut seal, &mut auditor);
+    run(
+        &mut rt.stdout(),
+        &script[..n],
+        &mut store,
+        &mut logs,
+        &mut seal,
+        &mut auditor,
+    )
+}
+
+// Reads until the memory is full or the input ends, and gives how many bytes it put at the front.
+fn read_full(input: &mut impl Read, memory: &mut [u8]) -> io::Result<usize>
+    ensures { IfOk result (λ n. n ≤ length memory.new) }
+{
+    let mut done = 0;
+    while done < memory.len() {
+        let n = input.read(&mut memory[done..])?;
+        if n == 0 {
+            break;
+        }
+        done += n;
+    }
+    Ok(done)
 }
 
 // Record after record; a shorter rest at the end is ignored.
-fn run(script: &[u8], store: &mut [u8], logs: &mut [u8], seal: &mut [u8], auditor: &mut [u8]) {
-    let mut view = material::nothing();
+fn run(
+    out: &mut impl Write,
+    script: &[u8],
+    store: &mut [u8],
+    logs: &mut [u8],
+    seal: &mut [u8],
+    auditor: &mut [u8],
+) -> io::Result<()> {
+    let mut view = views::nothing();
     let mut at = 0;
     while RECORD_LENGTH <= script.len() - at {
         let end = at + RECORD_LENGTH;
-        view = step(view, &script[at..end], store, logs, seal, auditor);
+        view = step(out, view, &script[at..end], store, logs, seal, auditor)?;
         at = end;
     }
+    Ok(())
 }
 
 fn step(
+    out: &mut impl Write,
     view: View,
     record: &[u8],
     store: &mut [u8],
     logs: &mut [u8],
     seal: &mut [u8],
     auditor: &mut [u8],
-) -> View {
+) -> io::Result<View> {
     let operation = record::byte(record, 0);
-    match operation {
-        0 => report::label(view, record),
-        1 => material::new(record, store, logs, seal),
-        2 => calls::open(view, record, store, logs, seal),
-        3 => calls::append(view, record, store, logs, seal),
-        4 => calls::close(view, store, logs, seal),
+    let next = match operation {
+        0 => report::label(out, view, record)?,
+        1 => views::new(record, store, logs, seal),
+        2 => calls::open(out, view, record, store, logs, seal)?,
+        3 => calls::append(out, view, record, store, logs, seal)?,
+        4 => calls::close(out, view, store, logs, seal)?,
         5 => change::set_state(view, record),
         6 => change::set_bytes(view, record, store, logs, seal, auditor),
         7 => change::set_length(view, record, store, logs, seal, auditor),
         8 => change::keep(view, store, auditor),
-        9 => calls::audit(view, record, store, logs, seal, auditor),
-        10 => calls::lookup(view, record, store, logs, seal, auditor),
-        11 => calls::plan(view, record),
-        12 => calls::restart(view, record, store, logs, seal),
+        9 => calls::audit(out, view, record, store, logs, seal, auditor)?,
+        10 => calls::lookup(out, view, record, store, logs, seal, auditor)?,
+        11 => calls::plan(out, view, record)?,
+        12 => calls::restart(out, view, record, store, logs, seal)?,
         _ => view,
-    }
+    };
+    Ok(next)
 }
 
 // Of these arrays only the length is stated, so that no proof carries their bytes.

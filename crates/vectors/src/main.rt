@@ -9,107 +9,113 @@ ghost use Rattle.std.specs.Prelude.{◌≡◌, length};
 
 mod messages;
 
-use libc::STDOUT_FILENO;
 use sha256::state::Sha256;
+use std::io;
+use std::io::Write;
 
-fn main() {
-    nist();
-    lengths();
-    rfc4231();
-    tag_lengths();
-    messages::device();
-    messages::standby();
+fn main(rt: HostRuntime) -> io::Result<()> {
+    let mut out = rt.stdout();
+    nist(&mut out)?;
+    lengths(&mut out)?;
+    rfc4231(&mut out)?;
+    tag_lengths(&mut out)?;
+    messages::device(&mut out)?;
+    messages::standby(&mut out)
 }
 
-fn nist() {
-    hash(b"abc", b"abc");
+fn nist(out: &mut impl Write) -> io::Result<()> {
+    hash(out, b"abc", b"abc")?;
     hash(
+        out,
         b"two-blocks",
         b"abcdbcdecdefdefgefghfghighijhijkijkljklmklmnlmnomnopnopq",
-    );
-    hash(b"byte-bd", &[0xbd]);
-    hash(b"four-bytes", &[0xc9, 0x8c, 0x8e, 0x55]);
-    hash(b"zeros-55", &[0; 55]);
-    hash(b"zeros-56", &[0; 56]);
-    hash(b"zeros-57", &[0; 57]);
-    hash(b"zeros-64", &[0; 64]);
-    hash(b"zeros-1000", &[0; 1000]);
-    hash(b"A-1000", &[0x41; 1000]);
-    hash(b"U-1005", &[0x55; 1005]);
-    million(b"million-a", [b'a'; 1000]);
-    million(b"million-zeros", [0; 1000]);
+    )?;
+    hash(out, b"byte-bd", &[0xbd])?;
+    hash(out, b"four-bytes", &[0xc9, 0x8c, 0x8e, 0x55])?;
+    hash(out, b"zeros-55", &[0; 55])?;
+    hash(out, b"zeros-56", &[0; 56])?;
+    hash(out, b"zeros-57", &[0; 57])?;
+    hash(out, b"zeros-64", &[0; 64])?;
+    hash(out, b"zeros-1000", &[0; 1000])?;
+    hash(out, b"A-1000", &[0x41; 1000])?;
+    hash(out, b"U-1005", &[0x55; 1005])?;
+    million(out, b"million-a", [b'a'; 1000])?;
+    million(out, b"million-zeros", [0; 1000])
 }
 
 // A thousand bytes a thousand times, part after part: no proof carries an array of a million.
-fn million(name: &[u8], part: [u8; 1000]) {
+fn million(out: &mut impl Write, name: &[u8], part: [u8; 1000]) -> io::Result<()> {
     let mut state = Sha256::new();
     let mut done: usize = 0;
     while done < 1000 {
         state = state.update(&part);
         done += 1;
     }
-    line(name, b" 0 ", state.finish());
+    line(out, name, b" 0 ", state.finish())
 }
 
 // The lengths at which padding changes its form, on the bytes 0, 1, 2, ..
-fn lengths() {
-    front(b"length-0", 0);
-    front(b"length-55", 55);
-    front(b"length-56", 56);
-    front(b"length-63", 63);
-    front(b"length-64", 64);
-    front(b"length-65", 65);
-    front(b"length-119", 119);
-    front(b"length-120", 120);
-    front(b"length-128", 128);
+fn lengths(out: &mut impl Write) -> io::Result<()> {
+    front(out, b"length-0", 0)?;
+    front(out, b"length-55", 55)?;
+    front(out, b"length-56", 56)?;
+    front(out, b"length-63", 63)?;
+    front(out, b"length-64", 64)?;
+    front(out, b"length-65", 65)?;
+    front(out, b"length-119", 119)?;
+    front(out, b"length-120", 120)?;
+    front(out, b"length-128", 128)
 }
 
-fn front(name: &[u8], n: usize) {
+fn front(out: &mut impl Write, name: &[u8], n: usize) -> io::Result<()> {
     let bytes = counting();
     if n <= 128 {
-        hash(name, &bytes[..n]);
+        hash(out, name, &bytes[..n])?;
     }
+    Ok(())
 }
 
-fn rfc4231() {
-    tag(b"case-1", &[0x0b; 20], b"Hi There", 32);
-    case2(b"case-2", 32);
-    tag(b"case-3", &[0xaa; 20], &[0xdd; 50], 32);
-    case4();
-    tag(b"case-5", &[0x0c; 20], b"Test With Truncation", 16);
+fn rfc4231(out: &mut impl Write) -> io::Result<()> {
+    tag(out, b"case-1", &[0x0b; 20], b"Hi There", 32)?;
+    case2(out, b"case-2", 32)?;
+    tag(out, b"case-3", &[0xaa; 20], &[0xdd; 50], 32)?;
+    case4(out)?;
+    tag(out, b"case-5", &[0x0c; 20], b"Test With Truncation", 16)?;
     tag(
+        out,
         b"case-6",
         &[0xaa; 131],
         b"Test Using Larger Than Block-Size Key - Hash Key First",
         32,
-    );
+    )?;
     tag(
+        out,
         b"case-7",
         &[0xaa; 131],
         b"This is a test using a larger than block-size key and a larger than block-size data. The key needs to be hashed before being used by the HMAC algorithm.",
         32,
-    );
+    )
 }
 
-fn case4() {
+fn case4(out: &mut impl Write) -> io::Result<()> {
     let bytes = counting();
-    tag(b"case-4", &bytes[1..26], &[0xcd; 50], 32);
+    tag(out, b"case-4", &bytes[1..26], &[0xcd; 50], 32)
 }
 
 // Tags of case 2 that are cut, and lengths on both sides of 16 and of 32.
-fn tag_lengths() {
-    case2(b"wanted-0", 0);
-    case2(b"wanted-15", 15);
-    case2(b"wanted-16", 16);
-    case2(b"wanted-17", 17);
-    case2(b"wanted-31", 31);
-    case2(b"wanted-32", 32);
-    case2(b"wanted-33", 33);
-    case2(b"wanted-48", 48);
+fn tag_lengths(out: &mut impl Write) -> io::Result<()> {
+    case2(out, b"wanted-0", 0)?;
+    case2(out, b"wanted-15", 15)?;
+    case2(out, b"wanted-16", 16)?;
+    case2(out, b"wanted-17", 17)?;
+    case2(out, b"wanted-31", 31)?;
+    case2(out, b"wanted-32", 32)?;
+    case2(out, b"wanted-33", 33)?;
+    case2(out, b"wanted-48", 48)
 }
 
-fn case2(name: &[u8], wanted: usize) {
-    tag(name, b"Jefe", b"what do ya want for nothing?", wanted);
+fn case2(out: &mut impl Write, name: &[u8], wanted: usize) -> io::Result<()> {
+    tag(out, name, b"Jefe", b"what do ya want for nothing?", wanted)
 }
 
 fn counting() -> [u8; 128]
@@ -122,39 +128,45 @@ fn counting() -> [u8; 128]
     bytes
 }
 
-fn hash(name: &[u8], message: &[u8]) {
+fn hash(out: &mut impl Write, name: &[u8], message: &[u8]) -> io::Result<()> {
     let answer = sha256::sha256(message);
     let bytes = answer.bytes;
     let outcome = answer.outcome;
     match outcome {
-        sha256::Outcome::Done => line(name, b" 0 ", bytes),
-        sha256::Outcome::TooLong => line(name, b" 1 ", bytes),
+        sha256::Outcome::Done => line(out, name, b" 0 ", bytes),
+        sha256::Outcome::TooLong => line(out, name, b" 1 ", bytes),
     }
 }
 
-fn tag(name: &[u8], key: &[u8], message: &[u8], wanted: usize) {
+fn tag(
+    out: &mut impl Write,
+    name: &[u8],
+    key: &[u8],
+    message: &[u8],
+    wanted: usize,
+) -> io::Result<()> {
     let answer = hmac::hmac(key, message, wanted);
     let bytes = answer.bytes;
     let outcome = answer.outcome;
     match outcome {
-        hmac::Outcome::Done => line(name, b" 0 ", bytes),
-        hmac::Outcome::TooLong => line(name, b" 1 ", bytes),
-        hmac::Outcome::BadTagLength => line(name, b" 26 ", bytes),
+        hmac::Outcome::Done => line(out, name, b" 0 ", bytes),
+        hmac::Outcome::TooLong => line(out, name, b" 1 ", bytes),
+        hmac::Outcome::BadTagLength => line(out, name, b" 26 ", bytes),
     }
 }
 
-fn line(name: &[u8], refusal: &[u8], bytes: [u8; 32]) {
-    io::write_all(STDOUT_FILENO, name);
-    io::write_all(STDOUT_FILENO, refusal);
+fn line(out: &mut impl Write, name: &[u8], refusal: &[u8], bytes: [u8; 32]) -> io::Result<()> {
+    out.write_all(name)?;
+    out.write_all(refusal)?;
     for i in 0..32 {
-        hex(bytes[i]);
+        hex(out, bytes[i])?;
     }
-    io::write_all(STDOUT_FILENO, b"\n");
+    out.write_all(b"\n")
 }
 
-fn hex(x: u8) {
+fn hex(out: &mut impl Write, x: u8) -> io::Result<()> {
     let pair = [digit(x / 16), digit(x % 16)];
-    io::write_all(STDOUT_FILENO, &pair);
+    out.write_all(&pair)
 }
 
 fn digit(x: u8) -> u8 {

@@ -3,52 +3,63 @@
 ghost use Rattle.std.specs.Prelude.{◌+◌, ◌≤◌};
 
 use crate::{line, tag};
-use libc::STDOUT_FILENO;
+use std::io;
+use std::io::Write;
 
 // The one chunk of both stores, the bytes 20 to 3f: the key of item 0.
 const CHUNK: [u8; 32] = *b" !\"#$%&'()*+,-./0123456789:;<=>?";
 
 // One phase, one chunk, two keys. An entry of phase 1 with nine bytes of data, the step to the second key, and a filler.
-pub fn device() {
+pub fn device(out: &mut impl Write) -> io::Result<()> {
     by_hand(
+        out,
         b"device",
         b"device 7\x02\x01\0\0\0\0\x09\0\0\0\0\0\0\0\0\0\0\x0007:00 164",
         b"device 7\x04\x01\0\0\0\x02\0\0\0",
         b"device 7\x03\0\0\0\0\x01\0\0\0",
-    );
+    )?;
     sealed(
+        out,
         b"device",
         *b"\x01device 7\x01\x01\0\0\0\x02\0\0\0 !\"#$%&'()*+,-./0123456789:;<=>?",
-    );
+    )
 }
 
 // The same under another id.
-pub fn standby() {
+pub fn standby(out: &mut impl Write) -> io::Result<()> {
     by_hand(
+        out,
         b"standby",
         b"device 8\x02\x01\0\0\0\0\x09\0\0\0\0\0\0\0\0\0\0\x0007:00 164",
         b"device 8\x04\x01\0\0\0\x02\0\0\0",
         b"device 8\x03\0\0\0\0\x01\0\0\0",
-    );
+    )?;
     sealed(
+        out,
         b"standby",
         *b"\x01device 8\x01\x01\0\0\0\x02\0\0\0 !\"#$%&'()*+,-./0123456789:;<=>?",
-    );
+    )
 }
 
-fn by_hand(owner: &[u8], entry: &[u8], ratchet: &[u8], filler: &[u8]) {
+fn by_hand(
+    out: &mut impl Write,
+    owner: &[u8],
+    entry: &[u8],
+    ratchet: &[u8],
+    filler: &[u8],
+) -> io::Result<()> {
     let chunk = CHUNK;
-    io::write_all(STDOUT_FILENO, owner);
-    tag(b"-entry", &chunk, entry, 32);
-    io::write_all(STDOUT_FILENO, owner);
-    tag(b"-next-key", &chunk, ratchet, 32);
+    out.write_all(owner)?;
+    tag(out, b"-entry", &chunk, entry, 32)?;
+    out.write_all(owner)?;
+    tag(out, b"-next-key", &chunk, ratchet, 32)?;
     let next = hmac::hmac(&chunk, ratchet, 32);
     let key = next.bytes;
-    io::write_all(STDOUT_FILENO, owner);
-    tag(b"-filler", &key, filler, 32);
+    out.write_all(owner)?;
+    tag(out, b"-filler", &key, filler, 32)
 }
 
-fn sealed(owner: &[u8], unused: [u8; 50]) {
+fn sealed(out: &mut impl Write, owner: &[u8], unused: [u8; 50]) -> io::Result<()> {
     let mut store = unused;
     let mut logs = [0; 8192];
     let mut seal = [0; 91];
@@ -59,14 +70,14 @@ fn sealed(owner: &[u8], unused: [u8; 50]) {
     let second = appended.state;
     sealer::close(second, &store, &logs, &mut seal);
     let key = second.key;
-    made(owner, b"-entry-sealed", tag_at(&seal, 18));
-    made(owner, b"-next-key-held", key);
-    made(owner, b"-filler-sealed", tag_at(&seal, 59));
+    made(out, owner, b"-entry-sealed", tag_at(&seal, 18))?;
+    made(out, owner, b"-next-key-held", key)?;
+    made(out, owner, b"-filler-sealed", tag_at(&seal, 59))
 }
 
-fn made(owner: &[u8], name: &[u8], bytes: [u8; 32]) {
-    io::write_all(STDOUT_FILENO, owner);
-    line(name, b" 0 ", bytes);
+fn made(out: &mut impl Write, owner: &[u8], name: &[u8], bytes: [u8; 32]) -> io::Result<()> {
+    out.write_all(owner)?;
+    line(out, name, b" 0 ", bytes)
 }
 
 fn tag_at(seal: &[u8; 91], at: usize) -> [u8; 32]
