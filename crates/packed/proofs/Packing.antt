@@ -23,7 +23,7 @@ use Rattle.scheme.proofs.Answers.{number_bounds}
 use Rattle.scheme.proofs.Parameters.{sizes}
 use Rattle.checks.proofs.Allowed as Allowed
 use Rattle.packed.specs.Surface.{packed}
-use Rattle.packed.specs.declared.sealing.Packed.{Packed}
+use Rattle.packed.specs.declared.calls.Packed.{Packed}
 
 pub number_fits : (x : Refusal) (r : ℕ) → r ≡ refusal_number x → r < 2 ^ 32
 number_fits x r e = omega (arith, e, (number_bounds x).1)

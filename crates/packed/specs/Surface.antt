@@ -4,7 +4,7 @@ use Rattle.std.specs.Prelude.{◌≡◌, List, ℕ, ◌+◌, ◌*◌, ◌^◌, �
 use Rattle.scheme.specs.Sizes.{most_items}
 use Rattle.scheme.specs.Sealer.{opens, appends, closes, restarts}
 use Rattle.scheme.specs.declared.State.{State}
-use Rattle.packed.specs.declared.sealing.Packed.{Packed}
+use Rattle.packed.specs.declared.calls.Packed.{Packed}
 
 -- the 64-bit answer: the refusal, or another first number, times 2 to the 32 plus the number
 abbrev pub packed : ℕ → ℕ → ℕ

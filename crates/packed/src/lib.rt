@@ -2,5 +2,5 @@
 #![tactic(auto)]
 
 pub mod answers;
+pub mod calls;
 pub mod plans;
-pub mod sealing;

@@ -1,6 +1,6 @@
--- `packed::sealing::outcome_code` meets its contract: a refused outcome has the count 0, and one that is done the refusal 0.
+-- `packed::calls::outcome_code` meets its contract: a refused outcome has the count 0, and one that is done the refusal 0.
 use native.Mathlib.Omega.{arith}
-use Rattle.packed.proofs.sealing.outcome_code.Goals as goal
+use Rattle.packed.proofs.calls.outcome_code.Goals as goal
 
 pub code-requires : goal.code-requires
 code-requires c =

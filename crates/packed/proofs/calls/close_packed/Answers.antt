@@ -1,7 +1,7 @@
--- `packed::sealing::close_packed` meets its contract: it packs the answer that `close` gives, whose count is a number of fillers.
+-- `packed::calls::close_packed` meets its contract: it packs the answer that `close` gives, whose count is a number of fillers.
 use mathlib.Core.Path.{◌∙◌}
 use Rattle.packed.proofs.Packing.{closes_count, count_fits, packed_answer}
-use Rattle.packed.proofs.sealing.close_packed.Goals as goal
+use Rattle.packed.proofs.calls.close_packed.Goals as goal
 
 pub pack-requires : goal.pack-requires
 pack-requires c = count_fits _ _ c.close-sealed.ensures.gives (closes_count _ _ _ _)

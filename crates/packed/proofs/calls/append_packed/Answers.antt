@@ -1,7 +1,7 @@
--- `packed::sealing::append_packed` meets its contract: it packs the answer that `append` gives, whose count is an item's number.
+-- `packed::calls::append_packed` meets its contract: it packs the answer that `append` gives, whose count is an item's number.
 use mathlib.Core.Path.{◌∙◌}
 use Rattle.packed.proofs.Packing.{appends_count, count_fits, packed_answer}
-use Rattle.packed.proofs.sealing.append_packed.Goals as goal
+use Rattle.packed.proofs.calls.append_packed.Goals as goal
 
 pub pack-requires : goal.pack-requires
 pack-requires c = count_fits _ _ c.append-sealed.ensures.gives (appends_count _ _ _ _ _ _)

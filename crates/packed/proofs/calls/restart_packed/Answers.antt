@@ -1,7 +1,7 @@
--- `packed::sealing::restart_packed` meets its contract: it packs the answer that `restart` gives, whose count is a key's number.
+-- `packed::calls::restart_packed` meets its contract: it packs the answer that `restart` gives, whose count is a key's number.
 use mathlib.Core.Path.{◌∙◌}
 use Rattle.packed.proofs.Packing.{restarts_count, count_fits, packed_answer}
-use Rattle.packed.proofs.sealing.restart_packed.Goals as goal
+use Rattle.packed.proofs.calls.restart_packed.Goals as goal
 
 pub pack-requires : goal.pack-requires
 pack-requires c = count_fits _ _ c.restart-sealed.ensures.gives (restarts_count _ _ _ _ _)

@@ -1,7 +1,7 @@
--- `packed::sealing::open_packed` meets its contract: it packs the answer that `open` gives, whose count is 0.
+-- `packed::calls::open_packed` meets its contract: it packs the answer that `open` gives, whose count is 0.
 use mathlib.Core.Path.{◌∙◌}
 use Rattle.packed.proofs.Packing.{opens_count, count_fits, packed_answer}
-use Rattle.packed.proofs.sealing.open_packed.Goals as goal
+use Rattle.packed.proofs.calls.open_packed.Goals as goal
 
 pub pack-requires : goal.pack-requires
 pack-requires c = count_fits _ _ c.open-sealed.ensures (opens_count _ _ _ _ _)
