@@ -3,7 +3,7 @@
 use mathlib.Core.Path.{◌≡◌, refl, sym, ap, subst}
 use mathlib.Core.List.{List, [], ◌∷◌, ◌++◌}
 use Prim.Native.Nat.{ℕ}
-use Rattle.scheme.specs.Sealer.{refused, opens}
+use Rattle.scheme.specs.Sealer.{opens}
 use Rattle.claims.specs.Account.{Call, Open, Append, Close, Restart, Cut, Answer, Fed, Account, started, account_from, account_refusal, account_answer, account_step, answers_from, lengths_reached, seal_reached, AllowedBy, Allowed, HistoryFrom}
 use Rattle.claims.specs.Run.{Device, device_started, effect_of, device_after, run_from, run_answers, RunHistoryFrom, History}
 use Rattle.claims.specs.Histories.{ByAccount, MayFollow, PlainBy}

@@ -21,7 +21,7 @@ use Rattle.scheme.proofs.Due.{same_place}
 use Rattle.claims.specs.Account.{Fed, Account, Call, Open, Append, Close, Restart, Cut, started, log_of, carried_by, seal_reached, with_lost, losing, entry_due, restart_due, account_append, account_restart, after_close, after_cut, account_append_rules, account_close_rules, account_restart_rules, account_refusal, account_done, account_refused, account_step, account_from, AllowedBy, Allowed, HistoryFrom}
 use Rattle.claims.proofs.Good.{Laid, Good}
 use Rattle.claims.proofs.Steps.Agrees.{step_either}
-use Rattle.claims.proofs.Steps.Begun.{Begun, begun}
+use Rattle.claims.proofs.Steps.Begun.{Begun}
 use Rattle.claims.proofs.Steps.Adding.{due_counters, half_free, stands_there, adds_laid, adds_good}
 use Rattle.claims.proofs.Steps.Entries.{Appends, logs_with, entry_kind_lem, entry_adds}
 use Rattle.claims.proofs.Steps.Fillers.{left, after_close_lem, close_sealed, fill_laid, fill_good}

@@ -7,7 +7,7 @@ use Prim.Native.Nat.{ℕ, zero, suc, ◌<◌}
 use native.Mathlib.Decide.{dec_lt}
 use native.Mathlib.Omega.{arith}
 use borrow.Author.Tests.{ne_eqb, lt-ltb}
-use Rattle.scheme.specs.Store.{chunk_count, chunk, burned}
+use Rattle.scheme.specs.Store.{chunk_count, chunk}
 use Rattle.scheme.specs.Items.{chunk_number, ratchet_offset}
 use Rattle.scheme.specs.Due.{KeyPlace, key_place}
 use Rattle.scheme.specs.Keys.{next_key, key_after, key_at}

@@ -1,5 +1,5 @@
 -- Calls, the account of a history, and what a history is (FORMAT.md, 10). Nothing here cites what the sealer does.
-use Rattle.std.specs.Prelude.{◌≡◌, Bool, true, false, not, ◌||◌, cond, ◌⊎◌, List, [], ◌∷◌, ◌++◌, ℕ, zero, suc, ◌+◌, ◌-◌, ◌*◌, ◌<◌, eqb, ltb, length, get_or, set, replicate}
+use Rattle.std.specs.Prelude.{◌≡◌, Bool, true, false, not, ◌||◌, cond, ◌⊎◌, List, [], ◌∷◌, ◌++◌, ℕ, zero, suc, ◌-◌, ◌<◌, eqb, ltb, length, get_or, set, replicate}
 use Rattle.scheme.specs.Bytes.{joined}
 use Rattle.scheme.specs.Rules.{Rule, ◌⇒◌, refusal_by, any_true, all_true, outside, some_from, row}
 use Rattle.scheme.specs.Store.{data_limit, log_capacity, phases, chunk_count, ratchet, bad_store, bad_logs, bad_lengths}
