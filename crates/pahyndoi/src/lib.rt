@@ -12,8 +12,8 @@ ghost use Rattle.hmac.specs.Call as Tag;
 
 use audited::auditing::audit_packed;
 use audited::looking::{data_at_packed, item_at_packed};
-use packed::plans::least_ratchet_packed;
 use packed::calls::{append_packed, close_packed, open_packed, restart_packed};
+use packed::plans::least_ratchet_packed;
 use scheme::State;
 
 // The digest of the message and 0, or 32 zeros and refusal 1 where the message is too long.
