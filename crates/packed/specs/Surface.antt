@@ -20,21 +20,21 @@ pub record Appended (s : State) (store logs seal : List ℕ) (phase : ℕ) (byte
   pub code : r.code ≡ packed (appends s store logs seal phase bytes).refusal (appends s store logs seal phase bytes).count
   pub fits : (appends s store logs seal phase bytes).count ≤ most_items
   pub state : r.state ≡ (appends s store logs seal phase bytes).state
-  pub store_left_lem : store' ≡ (appends s store logs seal phase bytes).store
-  pub logs_left_lem : logs' ≡ (appends s store logs seal phase bytes).logs
-  pub seal_left_lem : seal' ≡ (appends s store logs seal phase bytes).seal
+  pub store_left : store' ≡ (appends s store logs seal phase bytes).store
+  pub logs_left : logs' ≡ (appends s store logs seal phase bytes).logs
+  pub seal_left : seal' ≡ (appends s store logs seal phase bytes).seal
 
 -- close only reads store and logs
 pub record Closed (s : State) (store logs seal : List ℕ) (r : Packed) (seal' : List ℕ) : Type 0 where
   pub code : r.code ≡ packed (closes s store logs seal).refusal (closes s store logs seal).count
   pub fits : (closes s store logs seal).count ≤ most_items
   pub state : r.state ≡ (closes s store logs seal).state
-  pub seal_left_lem : seal' ≡ (closes s store logs seal).seal
+  pub seal_left : seal' ≡ (closes s store logs seal).seal
 
 -- restart only reads the logs
 pub record Restarted (s : State) (store logs seal : List ℕ) (number : ℕ) (r : Packed) (store' seal' : List ℕ) : Type 0 where
   pub code : r.code ≡ packed (restarts s store logs seal number).refusal (restarts s store logs seal number).count
   pub fits : (restarts s store logs seal number).count ≤ most_items
   pub state : r.state ≡ (restarts s store logs seal number).state
-  pub store_left_lem : store' ≡ (restarts s store logs seal number).store
-  pub seal_left_lem : seal' ≡ (restarts s store logs seal number).seal
+  pub store_left : store' ≡ (restarts s store logs seal number).store
+  pub seal_left : seal' ≡ (restarts s store logs seal number).seal

@@ -13,7 +13,7 @@ returns c =
       code = packed_answer _ _ left.gives c.pack.result c.pack.ensures.0;
       fits = appends_count _ _ _ _ _ _;
       state = c.pack.ensures.1 ∙ left.gives.state;
-      store_left_lem = left.store;
-      logs_left_lem = left.logs;
-      seal_left_lem = left.seal;
+      store_left = left.store;
+      logs_left = left.logs;
+      seal_left = left.seal;
     }

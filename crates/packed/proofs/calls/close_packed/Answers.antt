@@ -13,5 +13,5 @@ returns c =
       code = packed_answer _ _ left.gives c.pack.result c.pack.ensures.0;
       fits = closes_count _ _ _ _;
       state = c.pack.ensures.1 ∙ left.gives.state;
-      seal_left_lem = left.seal;
+      seal_left = left.seal;
     }

@@ -13,6 +13,6 @@ returns c =
       code = packed_answer _ _ left.gives c.pack.result c.pack.ensures.0;
       fits = restarts_count _ _ _ _ _;
       state = c.pack.ensures.1 ∙ left.gives.state;
-      store_left_lem = left.store;
-      seal_left_lem = left.seal;
+      store_left = left.store;
+      seal_left = left.seal;
     }
