@@ -2,7 +2,7 @@
 // digests of all it may change.
 #![tactic(auto)]
 
-ghost use Rattle.std.specs.Prelude.{◌≡◌, ◌≤◌, length, IfOk};
+ghost use Rattle.std.specs.Prelude.{◌≡◌, ◌≤◌, length, IfOk, OnErr};
 
 mod calls;
 mod change;
@@ -35,9 +35,10 @@ fn main(rt: HostRuntime) -> io::Result<()> {
     )
 }
 
-// Reads until the memory is full or the input ends, and gives how many bytes it put at the front.
+// Reads until the memory is full or the input ends, and gives how many bytes it put at the front. After an error what stands there is open.
 fn read_full(input: &mut impl Read, memory: &mut [u8]) -> io::Result<usize>
-    ensures { IfOk result (λ n. n ≤ length memory.new) }
+    ensures ok { IfOk result (λ n. n ≤ length memory.new) }
+    ensures err { OnErr result (length memory.new ≡ length memory.old) }
 {
     let mut done = 0;
     while done < memory.len() {
