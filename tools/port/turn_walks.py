@@ -1,28 +1,24 @@
 #!/usr/bin/env python3
-"""Turns old walks (Proof.antt) of a crate into Invariants.antt and Answers.antt.
-usage: turn_walks.py CRATEDIR NAMES.json [--open LOG] [--only F]  reads Proof.antt below CRATEDIR/proofs.old (as saved), writes to CRATEDIR/proofs."""
-import json, os, re, sys
+"""Turns the walks of a crate's functions (Proof.antt) into Invariants.antt and Answers.antt.
+
+usage: tools/port/turn_walks.py CRATE NAMES.json WALKS     at the top of the repository
+
+CRATE is the crate's folder, WALKS a folder with its walks as they stood in proofs/, and NAMES.json what `rt check --generated DIR --old-names` in CRATE wrote.
+The parts of a walk become invariants, measures and answers: each `.before` of a chain goes, steps, arms and goals get the names of NAMES.json, and an answer that only searches goes too.
+What several answers used of a place on their way is written out in each. Places that it can't turn are marked `??`."""
+
+import json
+import re
+import sys
 from pathlib import Path
-crate = Path(sys.argv[1]).resolve(); names = json.load(open(sys.argv[2]))
-openlog = sys.argv[sys.argv.index('--open')+1] if '--open' in sys.argv else None
-only = sys.argv[sys.argv.index('--only')+1].split(',') if '--only' in sys.argv else None
+
+crate = Path(sys.argv[1]).resolve()
+names = json.load(open(sys.argv[2], encoding="utf-8"))
+OLD = Path(sys.argv[3])
 cname = crate.name
-OLD = Path('/tmp/w/old') / cname
 TOK = r"[^\s(){}.;,@\"«»\[\]]+"
 norm = lambda s: s.replace('-', '_')
 
-def opened():
-    """goals left open by function path, from a check's log: file lines 'help: write ./proofs/x/Answers.antt'"""
-    d = {}
-    cur = None
-    for l in open(openlog):
-        m = re.search(r"write \./proofs/(\S+)/(Answers|Invariants)\.antt", l)
-        if m: cur = (m[1], m[2]); continue
-        m = re.match(r"\s*pub (\S+) : goal\.(\S+)", l)
-        if m and cur: d.setdefault(cur[0], set()).add(m[2])
-    return d
-
-OPEN = opened() if openlog else None
 
 def decls(t):
     """top-level declarations: (comment lines, sig text, body text)"""
@@ -48,7 +44,6 @@ def decls(t):
 def conv_file(p):
     rel = p.parent.relative_to(OLD)
     path = '.'.join(rel.parts)
-    if only and path not in only: return
     key = f"Rattle-{cname}-proofs.{path}.Lts"
     if key not in names:
         print('no names for', key); return
@@ -68,14 +63,13 @@ def conv_file(p):
         if arm:
             for field, old, path_ in arm[2]:
                 if path_: armmap.setdefault(norm(old).lower(), []).append((path_, [arm[0], field]))
-    named = {}
+    named, several = {}, {}
     for pl, cl in zip(N['places'], N['clauses']):
         if cl and len(cl['fields']) == 1 and pl[2][1]: named[pl[2][1]] = cl['fields'][0]
+        if cl and len(cl['fields']) > 1 and pl[2][1]: several[pl[2][1]] = cl['fields']
     placeof = {}
     for pl, n in zip(N['places'], N['places_by_name']):
         placeof[norm(pl[0])] = n
-    argsm = {}
-    for o, n in (zip(N['args'][1::5], [1]*0) if False else []): pass
     argsub = []
     for pair in N['args']:
         o, n = pair
@@ -97,6 +91,7 @@ def conv_file(p):
                         return root + '.' + '.'.join(to + parts[1 + len(path_):])
             for i, q in enumerate(parts):
                 if q == 'pre': q = 'requires'
+                elif q == 'well-formed': q = 'well_formed'
                 elif q == 'inv': q = 'invariant'
                 if norm(q).lower() in steps and i == 0 and root in clike: q = steps[norm(q).lower()]
                 outp.append(q)
@@ -105,6 +100,8 @@ def conv_file(p):
             if len(outp) >= 2 and outp[0].startswith('enum_told') and outp[1] == 'given':
                 v = re.search(r"-in-(\w+?)(-\d+)?$", outp[0])
                 outp = ['in-' + (v[1] if v else '??'), 'is'] + outp[3:]
+            if len(outp) >= 3 and outp[1] == 'ensures' and outp[0] in several and outp[2].isdigit():
+                outp[2] = several[outp[0]][int(outp[2])]
             if len(outp) >= 2 and outp[1] == 'ensures' and outp[0] in named and (len(outp) < 3 or outp[2] != named[outp[0]]):
                 outp.insert(2, named[outp[0]])
             return root + '.' + '.'.join(outp)
@@ -115,20 +112,24 @@ def conv_file(p):
         def place(m):
             q = norm(m[1])
             return 'goal.' + placeof.get(q, '??' + m[1])
-        s = re.sub(r"tie\.((?:(?:After|At|In|Untold|Start)(?:-[^\s(){},;→]+)?|Then\d+|Else\d+))(?: invariant-\S+)?(?: decreases-\S+)?", place, s)
+        s = re.sub(r"tie\.((?:(?:After|At|In|Untold|Start)(?:-[^\s(){},;→]+)?|Then\d+|Else\d+))(?: invariant-[^\s()]+)?(?: decreases-[^\s()]+)?", place, s)
         return s
 
     # helpers that only walk back
     access = []
-    for com, ls, head in ds:
-        m = head and re.search(rf"^{re.escape(head)} (\S+) =\s*(\S+)\s*$", '\n'.join(ls).rstrip(), re.M)
-        if m and re.sub(r"(?:\.before)+", "", m[2]) == m[1] and ': tie.' in ls[0]: access.append(head)
+    for _ in range(6):
+        for com, ls, head in ds:
+            if not head or head in access: continue
+            m = re.search(rf"^{re.escape(head)} (\S+) =\s*(.*?)\s*$", '\n'.join(ls).rstrip(), re.M | re.S)
+            if not m or ' tie.' not in ls[0]: continue
+            b = re.sub(r"(?:\.before)+", "", m[2])
+            if b == m[1] or any(b in (f"{h} {m[1]}", f"{h} ({m[1]})") for h in access): access.append(head)
     def plain(s):
-        for h in access:
+        for h in access * 4:
             for _ in range(6):
                 n = re.sub(rf"\((?<![\w-]){re.escape(h)} ({TOK}(?:\.{TOK})*)\)", r"\1", s)
                 n = re.sub(rf"\({re.escape(h)} \(([^()]*)\)\)", r"(\1)", n)
-                n = re.sub(rf"(?<![\w.-]){re.escape(h)} (c(?:\.before)*)(?![\w.-])", r"\1", n)
+                n = re.sub(rf"(?<![\w.-]){re.escape(h)} ((?!in\b|also\b|let\b|where\b)[A-Za-z][^\s(){{}}.;,]*(?:\.[^\s(){{}}.;,]+)*)(?![\w-])", r"\1", n)
                 if n == s: break
                 s = n
         return s
@@ -179,11 +180,7 @@ def conv_file(p):
             b = eq[2].strip(); ps = (eq[1] or '').split()
             ps = [x for x in ps if x not in ('κs',)]
             trivial = b in ('search rules', 'omega arith', 'search needs', 'refl') and not re.search(r'^unfolding ', txt, re.M)
-            if OPEN is not None:
-                if new and new not in OPEN.get('/'.join(rel.parts), set()):
-                    pats = [o for o in OPEN.get('/'.join(rel.parts), set()) if o.startswith(new + '-')]
-                    if not pats: continue
-            elif trivial: continue
+            if trivial: continue
             unf = re.search(r"^unfolding .*$", txt, re.M)
             nm = new or ('??' + m[1])
             goals.append((nm, b))
@@ -194,14 +191,79 @@ def conv_file(p):
     at = {n: a[1] for (o, n), a in zip(N['needs'], N['asked_at'])}
     asked = set(at.values())
     final = []
+    helpers = {}
+    W = rf"(?<![^\s(){{}},;.\[])%s(?![^\s(){{}},;.\]])"
     for a in answers:
         if isinstance(a, tuple):
-            users = [n for n, b in goals if re.search(rf"(?<![^\s(){{}},;]){re.escape(a[1])}(?![^\s(){{}},;.])", b)]
-            place = at.get(users[0], '??') if users else '??'
-            txt = re.sub(r"goal\.((?:After|At|In|Untold|Start)[^\s(){},;→]*)", lambda m: 'goal.' + place if place != '??' else m[0], a[2])
-            if len({at.get(u) for u in users}) > 1: txt = f"-- ?? used at {[(u, at.get(u)) for u in users]}\n" + txt
-            final.append(txt)
-        else: final.append(a)
+            if 'goal.' not in a[2]:
+                continue
+            m = re.match(rf"(?:--[^\n]*\n)*(?:abbrev )?{re.escape(a[1])} :\s+(?:\((\w+) : [^()]*\)|goal\.\S+|\?\?\S+)\s*→?\s*(.*?)\n(unfolding [^\n]*\n)?{re.escape(a[1])} (\w+)((?: \S+)*?) =(.*)$", a[2], re.S)
+            helpers[a[1]] = dict(text=a[2], m=m, uses=[])
+    def users(h):
+        out = [n for n, b in goals if re.search(W % re.escape(h), b)]
+        for k, v in helpers.items():
+            if k != h and re.search(W % re.escape(h), v['text']): out += users(k)
+        return sorted(set(out))
+    single = {}
+    for h, v in helpers.items():
+        pl = {at.get(u) for u in users(h)}
+        if len(pl) == 1 and None not in pl: single[h] = pl.pop()
+        elif not v['m']: single[h] = '??'
+    for _ in range(5):
+        for h in list(single):
+            if helpers[h]['m'] and any(k != h and k not in single and re.search(W % re.escape(k), helpers[h]['text']) for k in helpers): del single[h]
+    def order(names_):
+        return [h for h in helpers if h in names_]
+    def closure(b):
+        got = set()
+        todo = [h for h in helpers if h not in single and re.search(W % re.escape(h), b)]
+        while todo:
+            h = todo.pop()
+            if h in got: continue
+            got.add(h)
+            todo += [k for k in helpers if k not in single and k != h and re.search(W % re.escape(k), helpers[h]['m'][2] + ' ' + helpers[h]['m'][6])]
+        return order(got)
+    def called(s, hs):
+        al = {'c'} | set(re.findall(rf"let ({TOK}) = c(?= in|$)", s, re.M))
+        for _ in range(8): al |= {x for x, y in re.findall(rf"let ({TOK}) = ({TOK})(?= in|$)", s, re.M) if y in al}
+        for h in hs:
+            for x in sorted(al, key=len, reverse=True):
+                n = norm(h)
+                s = re.sub(rf"\({re.escape(h)} {re.escape(x)}\)", n, s)
+                s = re.sub(rf"\({re.escape(h)} \({re.escape(x)}\)\)", n, s)
+                s = re.sub(rf"(?<![\w.-]){re.escape(h)} \({re.escape(x)}\)", n, s)
+                s = re.sub(rf"(?<![\w.-]){re.escape(h)} {re.escape(x)}(?![\w.-])", n, s)
+        return s
+    for a in answers:
+        if isinstance(a, tuple):
+            if a[1] not in helpers:
+                final.append(a[2])
+            elif a[1] in single:
+                place = single[a[1]]
+                txt = re.sub(r"goal\.((?:After|At|In|Untold|Start|Then|Else)[^\s(){},;→]*)", lambda m: 'goal.' + place if place != '??' else m[0], a[2])
+                if place == '??': txt = f"-- ?? used at {[(u, at.get(u)) for u in users(a[1])]}\n" + txt
+                final.append(txt)
+        else:
+            hs = closure(a)
+            if hs:
+                m = re.match(r"((?:--[^\n]*\n)*pub [^\n]*\n)(unfolding [^\n]*\n)?([^\n=]*?=)(.*)$", a, re.S)
+                unf = m[2][10:].split() if m[2] else []
+                lets = ''
+                for h in hs:
+                    hm = helpers[h]['m']
+                    for u in (hm[3] or '')[10:].split():
+                        if u not in unf: unf.append(u)
+                    ty, bd = hm[2], hm[6]
+                    v = hm[4]
+                    if hm[1] and hm[1] != 'c': ty = re.sub(rf"(?<![\w.-]){hm[1]}(?![\w-])", 'c', ty)
+                    if v != 'c': bd = re.sub(rf"(?<![\w.-]){v}(?![\w-])", 'c', bd)
+                    if hm[5].strip(): bd = ' λ' + hm[5] + '.' + bd
+                    ty = ' '.join(ty.split())
+                    bd = called(bd.rstrip(), hs).strip('\n')
+                    lets += f"    let {norm(h)} : {called(ty, hs)} =" + ('\n' + bd if '\n' in bd else bd) + " in\n"
+                b = called(m[4], hs).strip()
+                a = m[1] + (f"unfolding {' '.join(unf)}\n" if unf else '') + m[3] + '\n' + lets + '    ' + b
+            final.append(a)
     answers = final
     out = crate / 'proofs' / rel
     out.mkdir(parents=True, exist_ok=True)
