@@ -151,7 +151,8 @@ fn json_of_every_set() {
 #[test]
 fn json_without_a_store() {
     let files = small_with(Set::COMMON);
-    let seal = written("json-alone", &files).path("seal.bin");
+    let folder = written("json-alone", &files);
+    let seal = folder.path("seal.bin");
     let json = run(&["dump", &seal, "--json"]).ended(0);
     let items = items_json(Set::COMMON, &files.seal, 6);
     assert!(

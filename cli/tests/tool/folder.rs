@@ -1,7 +1,8 @@
-//! A folder for one test, made anew.
+//! A folder for one test, made anew, and gone behind it. It lies outside the checkout: tests put links into it, and `rt ci` refuses a checkout
+//! with a link in it.
 
-use std::fs;
-use std::path::{Path, PathBuf};
+use std::path::PathBuf;
+use std::{env, fs, process};
 
 use crate::run::{Run, run};
 
@@ -10,8 +11,8 @@ pub struct Folder(PathBuf);
 impl Folder {
     /// The name is the test's own.
     pub fn new(name: &str) -> Folder {
-        let path = Path::new(env!("CARGO_TARGET_TMPDIR"))
-            .join("tool")
+        let path = env::temp_dir()
+            .join(format!("pahyndoi-tool-{}", process::id()))
             .join(name);
         if path.exists() {
             fs::remove_dir_all(&path).expect("an old folder goes");
@@ -47,5 +48,11 @@ impl Folder {
     pub fn item(&self, phase: &str, offset: &str, arguments: &[&str]) -> Run {
         let asked = ["--phase", phase, "--offset", offset];
         run(&[&["item", self.whole()], &asked[..], arguments].concat())
+    }
+}
+
+impl Drop for Folder {
+    fn drop(&mut self) {
+        let _ = fs::remove_dir_all(&self.0);
     }
 }

@@ -100,7 +100,8 @@ fn many_restarts() {
 #[test]
 fn table() {
     let files = cut();
-    let seal = written("dump", &files).path("seal.bin");
+    let folder = written("dump", &files);
+    let seal = folder.path("seal.bin");
     let text = run(&["dump", &seal]).ended(0);
     let tag: String = files.seal[END - 32..END - 28]
         .iter()
