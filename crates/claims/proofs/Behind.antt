@@ -15,7 +15,8 @@ use borrow.Author.Tests.{ne_eqb, lt-ltb, le-ltb}
 use Rattle.scheme.specs.Bytes.{splice, joined}
 use Rattle.scheme.specs.Store.{entry_kind, filler_kind, restart_kind, phases, chunk_count, chunk_place, log_place, ratchet, burned_front, chunk}
 use Rattle.scheme.specs.Items.{item_message, filler_head, filler_length, restart_length, chunk_number, ratchet_offset, kind_of, chunk_field, phase_of, head_of, data_of, message_of, pieces}
-use Rattle.scheme.specs.Due.{KeyPlace, key_place, own_place, due_behind}
+use Rattle.scheme.specs.Due.{key_place, own_place, due_behind}
+use Rattle.scheme.specs.declared.KeyPlace.{KeyPlace}
 use Rattle.scheme.specs.Keys.{key_of, tag_of}
 use Rattle.scheme.specs.Areas.{Area, areas_in, covered, length_in, Runs, none, next}
 use Rattle.scheme.specs.Acceptable.{Stands, there, restarts, Acceptable}

@@ -15,7 +15,8 @@ use lib.Seq.{take-take, length-take-le, get_or-take, ext_get_or, take-length, dr
 use borrow.Author.Tests.{eqb-true, eq-eqb, lt-ltb, le-ltb}
 use Rattle.scheme.specs.Store.{ratchet_kind, chunk_count, ratchet, burned_front}
 use Rattle.scheme.specs.Items.{ratchet_head, message_prefix, ratchet_message, chunk_number, ratchet_offset, kind_of, pieces, chunk_field, offset_field, head_length, head_of, item_tag, data_of, message_of}
-use Rattle.scheme.specs.Due.{KeyPlace, key_place, own_place, place_after, due_from, due_behind}
+use Rattle.scheme.specs.Due.{key_place, own_place, place_after, due_from, due_behind}
+use Rattle.scheme.specs.declared.KeyPlace.{KeyPlace}
 use Rattle.scheme.specs.Keys.{key_of, tag_of}
 use Rattle.scheme.specs.Audit.{audit}
 use Rattle.scheme.specs.Acceptable.{Acceptable, ItemOf, Stands, there, restarts}

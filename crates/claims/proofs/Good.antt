@@ -8,7 +8,8 @@ use lib.Dec.{eqb, ltb}
 use lib.ListN.{length, get_or, take}
 use Rattle.scheme.specs.Store.{entry_kind, data_limit, log_capacity, phases, chunk_count, ratchet}
 use Rattle.scheme.specs.Items.{kind_of, phase_of, data_length, item_tag, message_of}
-use Rattle.scheme.specs.Due.{KeyPlace, key_place, due_behind}
+use Rattle.scheme.specs.Due.{key_place, due_behind}
+use Rattle.scheme.specs.declared.KeyPlace.{KeyPlace}
 use Rattle.scheme.specs.Keys.{key_of, tag_of}
 use Rattle.scheme.specs.Areas.{area_of, area_end, areas_in, Runs}
 use Rattle.scheme.specs.Acceptable.{ItemOf, Stands}

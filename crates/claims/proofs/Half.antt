@@ -14,7 +14,8 @@ use lib.Seq.{get_or-append_seam, take-length, take-suc}
 use borrow.Author.Tests.{eq-eqb, ne_eqb, ltb-true}
 use Rattle.scheme.specs.Store.{restart_kind, ratchet}
 use Rattle.scheme.specs.Items.{chunk_number, ratchet_offset, kind_of, chunk_field, offset_field, number_field}
-use Rattle.scheme.specs.Due.{KeyPlace, key_place, own_place, place_after, due_from, due_behind}
+use Rattle.scheme.specs.Due.{key_place, own_place, place_after, due_from, due_behind}
+use Rattle.scheme.specs.declared.KeyPlace.{KeyPlace}
 use Rattle.scheme.specs.Acceptable.{Stands, there, restarts}
 use Rattle.scheme.proofs.Due.{rank, same_place, after_full, after_within, after_chunk, due_on, due_within, due_after_lem, stands_within, stands_after}
 use Rattle.claims.specs.Account.{Call, Fed, Account, started, carried_by, account_from, NoneHalfUsed, HalfUsed}

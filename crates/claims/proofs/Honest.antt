@@ -11,7 +11,8 @@ use borrow.Author.Tests.{eq-eqb, ne_eqb}
 use Rattle.scheme.specs.Store.{entry_kind, phases, ratchet, chunk, burned_front}
 use Rattle.scheme.specs.Items.{ratchet_offset, item_message, kind_of, head_of, phase_of, data_of, message_of, pieces}
 use Rattle.scheme.specs.Keys.{key_of, tag_of}
-use Rattle.scheme.specs.Due.{KeyPlace, key_place, due_behind}
+use Rattle.scheme.specs.Due.{key_place, due_behind}
+use Rattle.scheme.specs.declared.KeyPlace.{KeyPlace}
 use Rattle.scheme.specs.Areas.{area_of, area_end, areas_in, covered, length_in}
 use Rattle.scheme.specs.Audit.{audit}
 use Rattle.scheme.specs.Acceptable.{ItemOf, Stands}

@@ -12,7 +12,8 @@ use lib.ListN.{length, get_or, take, length-append, length-take, get_or-append}
 use lib.Seq.{append_snoc, take-append-le, take-append_seam, get_or-append_seam, get_or-take, take-take}
 use Rattle.scheme.specs.Store.{ratchet, burned_front}
 use Rattle.scheme.specs.Items.{chunk_field, pieces}
-use Rattle.scheme.specs.Due.{KeyPlace, own_place, due_behind, place_for}
+use Rattle.scheme.specs.Due.{own_place, due_behind, place_for}
+use Rattle.scheme.specs.declared.KeyPlace.{KeyPlace}
 use Rattle.scheme.specs.Audit.{Said, audit}
 use Rattle.scheme.specs.Acceptable.{Stands, Acceptable}
 use Rattle.scheme.proofs.Tests.{either}

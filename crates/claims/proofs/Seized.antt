@@ -9,7 +9,8 @@ use native.Mathlib.Omega.{arith}
 use borrow.Author.Tests.{ne_eqb, lt-ltb}
 use Rattle.scheme.specs.Store.{chunk_count, chunk}
 use Rattle.scheme.specs.Items.{chunk_number, ratchet_offset}
-use Rattle.scheme.specs.Due.{KeyPlace, key_place}
+use Rattle.scheme.specs.Due.{key_place}
+use Rattle.scheme.specs.declared.KeyPlace.{KeyPlace}
 use Rattle.scheme.specs.Keys.{next_key, key_after, key_at}
 use Rattle.scheme.specs.State.{zero_state}
 use Rattle.scheme.specs.declared.State.{State}

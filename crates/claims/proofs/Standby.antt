@@ -6,7 +6,8 @@ use native.Mathlib.Omega.{arith}
 use lib.ListN.{length, get_or}
 use Rattle.scheme.specs.Store.{ratchet}
 use Rattle.scheme.specs.Items.{chunk_of, offset_of, pieces}
-use Rattle.scheme.specs.Due.{KeyPlace, own_place}
+use Rattle.scheme.specs.Due.{own_place}
+use Rattle.scheme.specs.declared.KeyPlace.{KeyPlace}
 use Rattle.scheme.specs.Audit.{audit}
 use Rattle.scheme.specs.Acceptable.{Acceptable, NoRestart}
 use Rattle.scheme.specs.Standby.{ButIds, OneTag}

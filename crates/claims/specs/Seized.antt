@@ -3,7 +3,8 @@
 use Rattle.std.specs.Prelude.{◌≡◌, false, List, ℕ, suc, ◌<◌}
 use Rattle.scheme.specs.Store.{chunk_count, chunk, burned}
 use Rattle.scheme.specs.Items.{chunk_number, ratchet_offset}
-use Rattle.scheme.specs.Due.{KeyPlace, key_place, own_place}
+use Rattle.scheme.specs.Due.{key_place, own_place}
+use Rattle.scheme.specs.declared.KeyPlace.{KeyPlace}
 use Rattle.scheme.specs.Keys.{next_key, key_at}
 use Rattle.claims.specs.Account.{Call, Fed, Account, started, carried, account_from}
 use Rattle.claims.specs.Run.{Device, device_started, run_from}

@@ -12,7 +12,8 @@ use lib.Seq.{get_or-append_seam, take-append_seam, take-append-le}
 use borrow.Author.Tests.{lt-ltb, le-ltb, eq-eqb, ne_eqb}
 use Rattle.scheme.specs.Store.{entry_kind, restart_kind, phases, chunk_count, ratchet}
 use Rattle.scheme.specs.Items.{item_message, kind_of, chunk_field, data_of, message_of}
-use Rattle.scheme.specs.Due.{KeyPlace, key_place, own_place, place_after, due_behind}
+use Rattle.scheme.specs.Due.{key_place, own_place, place_after, due_behind}
+use Rattle.scheme.specs.declared.KeyPlace.{KeyPlace}
 use Rattle.scheme.specs.Keys.{key_at, tag_of}
 use Rattle.scheme.specs.Areas.{areas_in, Runs}
 use Rattle.scheme.specs.Acceptable.{ItemOf, Stands, there}
