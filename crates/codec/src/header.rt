@@ -31,7 +31,9 @@ fn headed_kind(store: &[u8]) -> Option<StoreKind>
     if store.len() < HEADER_LENGTH as usize {
         return None;
     }
-    let kind = StoreKind::try_from(store[0]).ok()?;
+    let Ok(kind) = StoreKind::try_from(store[0]) else {
+        return None;
+    };
     if store.len() < kind.header_length() as usize {
         return None;
     }

@@ -6,11 +6,13 @@ use Rattle.codec.proofs.header.headed_kind.Goals as goal
 pub returns-then-store : goal.returns-then-store
 returns-then-store c = too_short c.args.store.now (omega (arith, c.if-store.true))
 
-pub returns-in_err-kind : goal.returns-in_err-kind
-returns-in_err-kind c = ?
+pub returns-in_default : goal.returns-in_default
+returns-in_default c = no_kind c.args.store.now _ (sym c.try_from.ensures ∙ c.in_default.is)
 
-pub returns-then-store-2 : goal.returns-then-store-2
-returns-then-store-2 c = ?
+pub returns-then-store-header_length : goal.returns-then-store-header_length
+returns-then-store-header_length c =
+    cut_short c.args.store.now _ (is_kind c.args.store.now _ (sym c.try_from.ensures ∙ c.in-Ok.is)) (omega (arith, c.header_length.ensures, c.if-store-header_length.true))
 
 pub returns : goal.returns
-returns c = ?
+returns c =
+    whole c.args.store.now _ (is_kind c.args.store.now _ (sym c.try_from.ensures ∙ c.in-Ok.is)) (omega (arith, c.header_length.ensures, c.if-store-header_length.false))
