@@ -100,11 +100,11 @@ module _ (counts : List ℕ) (chunks : ℕ) (fits : bad_plan counts chunks ≡ f
       let zeroth : least_ratchet counts chunks ≡ 0 = (nothing counts chunks).1 (λ m low high. found.below m low (omega arith)) in
       rw (fits, eq-eqb (least_ratchet counts chunks) 0 zeroth) refl
 
-  pub least_lasts : n ≤ 256 → Ok (Some n) ≡ planned counts chunks
-  least_lasts high =
+  pub least_lasts : n ≤ 256 → (m : ℕ) → m ≡ n → Ok (Some m) ≡ planned counts chunks
+  least_lasts high m same =
       let is : least_ratchet counts chunks ≡ n
       = (least counts chunks n found.some).1 record { low = found.some; high = high; lasts = found.lasts high; least = found.below } in
-      rw (fits, is, ne_eqb n 0 (λ z. omega (arith, found.some))) refl
+      rw (fits, is, ne_eqb n 0 (λ z. omega (arith, found.some)), same) refl
 
 -- 25 is the number of one refusal alone
 number_25 : (x : Refusal) → refusal_number x ≡ 25 → x ≡ BadPlan
@@ -200,4 +200,4 @@ empty_needs_one chunks some most r p =
     let fits = (none_true (ltb 64 0 ∷ any_over 65536 [] ∷ outside 1 1024 chunks ∷ [])).1 (refl, (refl, ((in_range 1 1024 chunks).1 (some, most), tt))) in
     let found : Between [] chunks 1 1
     = record { some = omega arith; order = omega arith; most = omega arith; below = λ m low less lasts. omega arith; lasts = λ high. omega arith } in
-    settled [] chunks r p ∙ sym (least_lasts [] chunks fits 1 found (omega arith))
+    settled [] chunks r p ∙ sym (least_lasts [] chunks fits 1 found (omega arith) 1 refl)

@@ -12,4 +12,4 @@ chunks_for-requires c =
 pub loop-low-preserved : goal.loop-low-preserved
 loop-low-preserved c =
     let l = c.loop-low in
-    goes_up _ _ l.low _ l.high l.invariant (omega arith) (omega arith) (omega (arith, c.chunks_for.ensures, c.if-chunks_for-chunks.false))
+    goes_up _ _ l.low _ l.high l.invariant (omega arith) (omega arith) (omega arith)

@@ -11,4 +11,4 @@ returns-then-n-gt-LARGEST_RATCHET c =
 pub returns : goal.returns
 returns c =
     let fits = sym c.bad_plan.ensures ∙ c.if-bad_plan.false in
-    least_lasts _ _ fits _ c.halved-n.ensures (omega (arith, c.if-n-gt-LARGEST_RATCHET.false))
+    least_lasts _ _ fits _ c.halved-n.ensures (omega (arith, c.if-n-gt-LARGEST_RATCHET.false)) _ (omega arith)
