@@ -180,8 +180,8 @@ fn write_lookup(
 pub fn plan(out: &mut impl Write, view: View, record: &[u8]) -> io::Result<View> {
     let counts = counts_of(record);
     let n = at_most(MAX_COUNTS, byte(record, 1) as usize);
-    let ratchet = planning::least_ratchet(&counts[..n], word(record, 4));
-    write_ratchet(out, ratchet)?;
+    let answer = planning::least_ratchet(&counts[..n], word(record, 4));
+    write_ratchet(out, answer)?;
     Ok(view)
 }
 

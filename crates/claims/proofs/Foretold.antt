@@ -2,14 +2,14 @@
 -- left last just as `least_ratchet` says (`foretold`).
 use mathlib.Core.Path.{◌≡◌, ap, ◌∙◌}
 use mathlib.Core.List.{List, [], ◌∷◌, ◌++◌}
-use Prim.Native.Nat.{◌≤◌, ◌<◌}
+use Prim.Native.Nat.{ℕ, ◌≤◌, ◌<◌}
 use native.Mathlib.Nat.{lt_of_not-le}
 use native.Mathlib.Omega.{arith}
+use Rattle.std.specs.Prelude.{Option, Some, None, Result, Ok, Err}
 use Rattle.scheme.specs.Store.{chunk_count, ratchet}
+use Rattle.scheme.specs.declared.Refusal.{Refusal}
 use Rattle.planning.specs.Chunks.{rounded_up, chunks_for}
 use Rattle.planning.specs.Ratchet.{Planned}
-use Rattle.planning.specs.declared.Ratchet.{Ratchet}
-use Rattle.planning.specs.declared.Ratchet.TheVariants.{Least, NoneLasts, Refused}
 use Rattle.planning.proofs.Plans.{is_least, nothing_lasts}
 use Rattle.planning.proofs.Quotients.{at_most}
 use Rattle.planning.proofs.Sums.{antitone}
@@ -64,14 +64,14 @@ module _ (f : Fed) (starts : Starts f) (calls : List Call) (history : History f 
     spent : chunks_left f (account_from f (started f) calls) < chunks_for (counts_of plan) (ratchet f.store) → Spent f calls plan
     spent few only = rw (device_answers_lem f starts calls history none plan) ((follows f starts calls history none plan).short (omega (arith, few)) only)
 
-    pub foretold : (x : Ratchet) → Planned (counts_of plan) (chunks_left f (account_from f (started f) calls)) x → Foretold f calls plan x
-    foretold (Least n) planned =
+    pub foretold : (x : Result (Option ℕ) Refusal) → Planned (counts_of plan) (chunks_left f (account_from f (started f) calls)) x → Foretold f calls plan x
+    foretold (Ok (Some n)) planned =
         let least = is_least (counts_of plan) (chunks_left f (account_from f (started f) calls)) n planned in
         let keys = (begun f starts).store in (
           (λ more. lasting (omega (arith, least.lasts, antitone (counts_of plan) n (ratchet f.store) least.low (omega (arith, more))))),
           (λ less. spent (lt_of_not-le (least.least (ratchet f.store) keys.ratchet_low (omega (arith, less))))),
         )
-    foretold NoneLasts planned =
+    foretold (Ok None) planned =
         let keys = (begun f starts).store in
         spent (lt_of_not-le (nothing_lasts (counts_of plan) (chunks_left f (account_from f (started f) calls)) planned (ratchet f.store) keys.ratchet_low keys.ratchet_high))
-    foretold Refused planned = tt
+    foretold (Err refusal) planned = tt

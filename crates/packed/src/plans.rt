@@ -5,24 +5,22 @@ ghost use Rattle.packed.specs.Surface.{packed};
 ghost use Rattle.packed.specs.Plans.{RatchetPlanned};
 
 use crate::answers::{code, refused_code};
-use planning::{Ratchet, least_ratchet};
+use planning::least_ratchet;
 use scheme::Refusal;
 
 // `planning::least_ratchet`: what it answers in one word.
 pub fn least_ratchet_packed(counts: &[u32], chunks: u32) -> u64
     ensures { RatchetPlanned counts.now chunks result }
 {
-    let ratchet = least_ratchet(counts, chunks);
-    ratchet_code(ratchet)
+    ratchet_code(least_ratchet(counts, chunks))
 }
 
 // The answer of a plan: the ratchet, 0 where none lasts, or the refusal.
-fn ratchet_code(ratchet: Ratchet) -> u64
-    ensures { result ≡ packed (ratchet_refusal ratchet) (ratchet_number ratchet) }
+fn ratchet_code(answer: Result<Option<u32>, Refusal>) -> u64
+    ensures { result ≡ packed (ratchet_refusal answer) (ratchet_number answer) }
 {
-    match ratchet {
-        Ratchet::Least(n) => code(0, n as u64),
-        Ratchet::NoneLasts => 0,
-        Ratchet::Refused => refused_code(Refusal::BadPlan, 0),
+    match answer {
+        Ok(ratchet) => code(0, ratchet.unwrap_or(0) as u64),
+        Err(refusal) => refused_code(refusal, 0),
     }
 }

@@ -1,23 +1,21 @@
 -- A plan that is not refused is within its limits (`limits`). The ratchet said is the least that lasts (`least`), none is said to last just where
 -- nothing does (`nothing`), an empty list needs 1 (`empty_needs_one`), and a plan has one answer (`one_answer`).
-use mathlib.Core.Path.{◌≡◌, refl, sym, ap, ◌∙◌}
-use mathlib.Core.Bool.{true, false, true≢false, false≢true}
-use mathlib.Core.Logic.{◌⊎◌, inl, inr, ◌↔◌, by_cases}
-use mathlib.Core.List.{List, [], ◌∷◌}
-use Prim.Native.Nat.{ℕ, zero, suc, ◌+◌, ◌≤◌, ◌<◌}
+use Rattle.std.proofs.Common.{◌≡◌, refl, sym, ap, ◌∙◌, Bool, true, false, cond, if◌then◌else◌, ◌⊎◌, inl, inr, ◌↔◌, List, [], ◌∷◌, ℕ, zero, suc, ◌+◌, ◌≤◌, ◌<◌, ◌==◌, arith, length, get_or, Option, Some, None, Result, Ok, Err}
+use mathlib.Core.Bool.{true≢false, false≢true}
+use mathlib.Core.Logic.{by_cases}
 use native.Mathlib.Decide.{dec_lt}
-use native.Mathlib.Omega.{arith}
 use lib.Dec.{ltb, eqb}
-use lib.ListN.{length, get_or}
 use borrow.Author.Tests.{ltb-false, eq-eqb, ne_eqb, le-leb, lt-leb}
-use Rattle.scheme.specs.Rules.{outside, some_from, refusal_by}
+use Rattle.scheme.specs.Rules.{◌⇒◌, outside, some_from, refusal_by}
 use Rattle.scheme.specs.Store.{any_over}
-use Rattle.scheme.proofs.Rules.{none_true, in_range, passed, goes_on, refuses}
+use Rattle.scheme.specs.Answers.{refusal_number}
+use Rattle.scheme.specs.declared.Refusal.{Refusal}
+use Rattle.scheme.specs.declared.Refusal.TheVariants.{TooLong, BadStore, BadLogs, BurnedAfterUnburned, BadLengths, StateUnfit, NoSuchPhase, BadDataLength, LogFull, SealFull, KeysSpent, BadAuditorStore, HeadersDiffer, ChunkDiffers, BadItem, ItemNotDue, WrongPlace, BadArea, AreaShared, AreaBeyond, WrongTag, ItemsMissing, NotCovered, NoSuchByte, BadPlan, BadTagLength, BadRestart}
+use Rattle.scheme.proofs.Answers.{number_bounds}
+use Rattle.scheme.proofs.Rules.{none_true, in_range, passed}
 use Rattle.scheme.proofs.Scans.{none_over}
 use Rattle.planning.specs.Chunks.{chunks_for, Lasts, bad_plan, plan_rules}
-use Rattle.planning.specs.Ratchet.{first_lasting, least_ratchet, ratchet_refusal, IsLeast, NothingLasts, Planned, Between}
-use Rattle.planning.specs.declared.Ratchet.{Ratchet}
-use Rattle.planning.specs.declared.Ratchet.TheVariants.{Least, NoneLasts, Refused}
+use Rattle.planning.specs.Ratchet.{first_lasting, least_ratchet, planned, ratchet_refusal, ratchet_number, ratchet_none, IsLeast, NothingLasts, Planned, Between}
 
 -- what is known of a plan that is not refused
 pub record Limits (counts : List ℕ) (chunks : ℕ) : Type 0 where
@@ -96,65 +94,110 @@ module _ (counts : List ℕ) (chunks : ℕ) where
       back never (inr (low, high, lasts)) = absurd (never (least_ratchet counts chunks) low (omega arith) lasts)
 
 -- what the search gives is the answer
+module _ (counts : List ℕ) (chunks : ℕ) (fits : bad_plan counts chunks ≡ false) (n : ℕ) (found : Between counts chunks n n) where
+  pub none_lasts : 256 < n → Ok None ≡ planned counts chunks
+  none_lasts past =
+      let zeroth : least_ratchet counts chunks ≡ 0 = (nothing counts chunks).1 (λ m low high. found.below m low (omega arith)) in
+      rw (fits, eq-eqb (least_ratchet counts chunks) 0 zeroth) refl
+
+  pub least_lasts : n ≤ 256 → (m : ℕ) → m ≡ n → Ok (Some m) ≡ planned counts chunks
+  least_lasts high m same =
+      let is : least_ratchet counts chunks ≡ n
+      = (least counts chunks n found.some).1 record { low = found.some; high = high; lasts = found.lasts high; least = found.below } in
+      rw (fits, is, ne_eqb n 0 (λ z. omega (arith, found.some)), same) refl
+
+-- 25 is the number of one refusal alone
+number_25 : (x : Refusal) → refusal_number x ≡ 25 → x ≡ BadPlan
+number_25 =
+    elim [
+      | TooLong ↦ (λ same. absurd (omega arith))
+      | BadStore ↦ (λ same. absurd (omega arith))
+      | BadLogs ↦ (λ same. absurd (omega arith))
+      | BurnedAfterUnburned ↦ (λ same. absurd (omega arith))
+      | BadLengths ↦ (λ same. absurd (omega arith))
+      | StateUnfit ↦ (λ same. absurd (omega arith))
+      | NoSuchPhase ↦ (λ same. absurd (omega arith))
+      | BadDataLength ↦ (λ same. absurd (omega arith))
+      | LogFull ↦ (λ same. absurd (omega arith))
+      | SealFull ↦ (λ same. absurd (omega arith))
+      | KeysSpent ↦ (λ same. absurd (omega arith))
+      | BadAuditorStore ↦ (λ same. absurd (omega arith))
+      | HeadersDiffer ↦ (λ same. absurd (omega arith))
+      | ChunkDiffers ↦ (λ same. absurd (omega arith))
+      | BadItem ↦ (λ same. absurd (omega arith))
+      | ItemNotDue ↦ (λ same. absurd (omega arith))
+      | WrongPlace ↦ (λ same. absurd (omega arith))
+      | BadArea ↦ (λ same. absurd (omega arith))
+      | AreaShared ↦ (λ same. absurd (omega arith))
+      | AreaBeyond ↦ (λ same. absurd (omega arith))
+      | WrongTag ↦ (λ same. absurd (omega arith))
+      | ItemsMissing ↦ (λ same. absurd (omega arith))
+      | NotCovered ↦ (λ same. absurd (omega arith))
+      | NoSuchByte ↦ (λ same. absurd (omega arith))
+      | BadPlan ↦ (λ same. refl)
+      | BadTagLength ↦ (λ same. absurd (omega arith))
+      | BadRestart ↦ (λ same. absurd (omega arith))
+    ]
+
+not_zero : (n : ℕ) → eqb (suc n) 0 ≡ false
+not_zero n = ne_eqb (suc n) 0 (λ e. omega arith)
+
+-- what is answered keeps the promise, and nothing else does: of a plan that is bad or not, and its least ratchet
+kept_of : (bad : Bool) (n : ℕ) → let r : Result (Option ℕ) Refusal = if bad then Err BadPlan else Ok (if n == 0 then None else Some n) in
+    (ratchet_refusal r ≡ refusal_by ((bad ⇒ 25) ∷ [])) × (ratchet_number r ≡ cond bad 0 n) × (ratchet_none r ≡ cond bad false (eqb n 0))
+unfolding refusal_by
+kept_of true n = (refl, refl, refl)
+kept_of false zero = (refl, refl, refl)
+kept_of false (suc n) = rw (not_zero n) (refl, refl, refl)
+
+settled_of : (bad : Bool) (n : ℕ) (r : Result (Option ℕ) Refusal) → ratchet_refusal r ≡ refusal_by ((bad ⇒ 25) ∷ [])
+    → ratchet_number r ≡ cond bad 0 n → ratchet_none r ≡ cond bad false (eqb n 0)
+    → r ≡ (if bad then Err BadPlan else Ok (if n == 0 then None else Some n))
+unfolding refusal_by
+settled_of true n (Ok ratchet) refusal number none = absurd (omega arith)
+settled_of true n (Err x) refusal number none = ap Err (number_25 x refusal)
+settled_of false n (Err x) refusal number none = absurd (omega (arith, number_bounds x))
+settled_of false zero (Ok None) refusal number none = refl
+settled_of false zero (Ok (Some m)) refusal number none = absurd (false≢true none)
+settled_of false (suc n) (Ok None) refusal number none = absurd (true≢false (none ∙ not_zero n))
+settled_of false (suc n) (Ok (Some m)) refusal number none = rw (not_zero n) (ap (λ (k : ℕ). Ok (Some k)) number)
+
 module _ (counts : List ℕ) (chunks : ℕ) where
-  pub refused : bad_plan counts chunks ≡ true → Planned counts chunks Refused
-  refused bad = record { refusal = sym (refuses (bad_plan counts chunks) 25 [] bad); number = rw bad; none = rw bad }
+  pub promised : Planned counts chunks (planned counts chunks)
+  promised =
+      let kept = kept_of (bad_plan counts chunks) (least_ratchet counts chunks) in
+      record { refusal = kept.0; number = kept.1; none = kept.2 }
 
-  passes : bad_plan counts chunks ≡ false → 0 ≡ refusal_by (plan_rules counts chunks)
-  unfolding refusal_by
-  passes fits = sym (goes_on (bad_plan counts chunks) 25 [] fits)
-
-  module _ (fits : bad_plan counts chunks ≡ false) (n : ℕ) (found : Between counts chunks n n) where
-    pub none_lasts : 256 < n → Planned counts chunks NoneLasts
-    none_lasts past =
-        let zeroth : least_ratchet counts chunks ≡ 0 = (nothing counts chunks).1 (λ m low high. found.below m low (omega arith)) in
-        record { refusal = passes fits; number = rw (fits, zeroth); none = rw (fits, eq-eqb (least_ratchet counts chunks) 0 zeroth) }
-
-    pub least_lasts : n ≤ 256 → (m : ℕ) → m ≡ n → Planned counts chunks (Least m)
-    least_lasts high m same =
-        let is : least_ratchet counts chunks ≡ n
-        = (least counts chunks n found.some).1 record { low = found.some; high = high; lasts = found.lasts high; least = found.below } in
-        record {
-          refusal = passes fits;
-          number = rw (fits, is) same;
-          none = rw (fits, ne_eqb (least_ratchet counts chunks) 0 (λ z. omega (arith, found.some)));
-        }
+  pub settled : (r : Result (Option ℕ) Refusal) → Planned counts chunks r → r ≡ planned counts chunks
+  settled r p = settled_of (bad_plan counts chunks) (least_ratchet counts chunks) r p.refusal p.number p.none
 
 -- what an answer says
 module _ (counts : List ℕ) (chunks : ℕ) where
-  not_refused : (r : Ratchet) → Planned counts chunks r → ratchet_refusal r ≡ 0 → bad_plan counts chunks ≡ false
-  not_refused r p e = passed (plan_rules counts chunks) refl (sym p.refusal ∙ e) 25
+  not_refused : (ratchet : Option ℕ) → Planned counts chunks (Ok ratchet) → bad_plan counts chunks ≡ false
+  not_refused ratchet p = passed (plan_rules counts chunks) refl (sym p.refusal) 25
 
-  pub is_least : (n : ℕ) → Planned counts chunks (Least n) → IsLeast counts chunks n
+  pub is_least : (n : ℕ) → Planned counts chunks (Ok (Some n)) → IsLeast counts chunks n
   is_least n p =
-      let fits = not_refused (Least n) p refl in
+      let fits = not_refused (Some n) p in
       let said : n ≡ least_ratchet counts chunks = p.number ∙ rw fits in
       let told : false ≡ eqb (least_ratchet counts chunks) 0 = p.none ∙ rw fits in
       by_cases (dec_lt 0 n) (λ some. (least counts chunks n some).0 (sym said))
       (λ other. absurd (true≢false (sym (eq-eqb (least_ratchet counts chunks) 0 (omega (arith, said))) ∙ sym told)))
 
-  pub nothing_lasts : Planned counts chunks NoneLasts → NothingLasts counts chunks
+  pub nothing_lasts : Planned counts chunks (Ok None) → NothingLasts counts chunks
   nothing_lasts p =
-      let fits = not_refused NoneLasts p refl in
+      let fits = not_refused None p in
       (nothing counts chunks).0 (sym (p.number ∙ rw fits))
 
--- a plan has one answer: the contract settles it
-pub one_answer : (counts : List ℕ) (chunks : ℕ) (a b : Ratchet) → Planned counts chunks a → Planned counts chunks b → a ≡ b
-one_answer counts chunks (Least n) (Least m) p q = ap Least (p.number ∙ sym q.number)
-one_answer counts chunks (Least n) NoneLasts p q = absurd (false≢true (p.none ∙ sym q.none))
-one_answer counts chunks (Least n) Refused p q = absurd (omega (arith, p.refusal, q.refusal))
-one_answer counts chunks NoneLasts (Least m) p q = absurd (true≢false (p.none ∙ sym q.none))
-one_answer counts chunks NoneLasts NoneLasts p q = refl
-one_answer counts chunks NoneLasts Refused p q = absurd (omega (arith, p.refusal, q.refusal))
-one_answer counts chunks Refused (Least m) p q = absurd (omega (arith, p.refusal, q.refusal))
-one_answer counts chunks Refused NoneLasts p q = absurd (omega (arith, p.refusal, q.refusal))
-one_answer counts chunks Refused Refused p q = refl
+-- a plan has one answer: the promise settles it
+pub one_answer : (counts : List ℕ) (chunks : ℕ) (a b : Result (Option ℕ) Refusal) → Planned counts chunks a → Planned counts chunks b → a ≡ b
+one_answer counts chunks a b p q = settled counts chunks a p ∙ sym (settled counts chunks b q)
 
 -- an empty list needs 1
-pub empty_needs_one : (chunks : ℕ) → 1 ≤ chunks → chunks ≤ 1024 → (r : Ratchet) → Planned [] chunks r → r ≡ Least 1
+pub empty_needs_one : (chunks : ℕ) → 1 ≤ chunks → chunks ≤ 1024 → (r : Result (Option ℕ) Refusal) → Planned [] chunks r → r ≡ Ok (Some 1)
 unfolding bad_plan any_over some_from chunks_for
-empty_needs_one chunks some most r planned =
+empty_needs_one chunks some most r p =
     let fits = (none_true (ltb 64 0 ∷ any_over 65536 [] ∷ outside 1 1024 chunks ∷ [])).1 (refl, (refl, ((in_range 1 1024 chunks).1 (some, most), tt))) in
     let found : Between [] chunks 1 1
     = record { some = omega arith; order = omega arith; most = omega arith; below = λ m low less lasts. omega arith; lasts = λ high. omega arith } in
-    one_answer [] chunks r (Least 1) planned (least_lasts [] chunks fits 1 found (omega arith) 1 refl)
+    settled [] chunks r p ∙ sym (least_lasts [] chunks fits 1 found (omega arith) 1 refl)

@@ -1,10 +1,12 @@
 -- A quotient rounded up is the least number whose product is enough (`enough`); the laws about it follow from that, but for `apart`.
-use mathlib.Core.Path.{◌≡◌, refl}
+use mathlib.Core.Path.{◌≡◌, sym}
 use mathlib.Core.Logic.{◌↔◌, by_cases}
 use Prim.Native.Nat.{ℕ, suc, ◌+◌, ◌-◌, ◌*◌, ◌/◌, ◌≤◌, ◌<◌}
 use native.Mathlib.Nat.{div-lt_iff_lt-mul, mul-add-div_right, mul-le-mul_left, mul-le-mul_right, add-mul, suc-mul, zero-mul, le_refl}
 use native.Mathlib.Decide.{dec_lt}
 use native.Mathlib.Omega.{arith}
+use Rattle.std.specs.Int.{div_ceil}
+use Rattle.std.proofs.lemmas.Grind.{div_ceil_times}
 use Rattle.planning.specs.Chunks.{rounded_up}
 
 pub enough : (count n k : ℕ) → 0 < n → (rounded_up count n ≤ k) ↔ (count ≤ k * n)
@@ -27,11 +29,6 @@ falls count n m some more =
 -- and none gives more than the count
 pub at_most : (count n : ℕ) → 0 < n → rounded_up count n ≤ count
 at_most count n some = (enough count n count some).1 (omega (arith, mul-le-mul_left count some))
-
--- what is computed, in its bounds
-pub rounds : (count n m : ℕ) → m ≡ count + n - 1 → 0 < n → count ≤ 65536 → (m / n ≡ rounded_up count n) × (m / n ≤ 65536)
-unfolding rounded_up
-rounds count n m same some small = rw same (refl, omega (arith, at_most count n some))
 
 -- where there is something to divide, there is a quotient
 pub above_none : (count n : ℕ) → 0 < n → 0 < count → 0 < rounded_up count n
@@ -65,3 +62,9 @@ exactly count n k some up down =
 
 pub whole : (k n : ℕ) → 0 < n → rounded_up (k * n) n ≡ k
 whole k n some = exactly (k * n) n k some (le_refl (k * n)) (omega arith)
+
+-- so is what `div_ceil` gives
+pub divided : (count n : ℕ) → 0 < n → div_ceil count n ≡ rounded_up count n
+divided count n some =
+    let bounds = div_ceil_times count n some in
+    sym (exactly count n (div_ceil count n) some bounds.0 bounds.1)

@@ -1,28 +1,29 @@
--- The sum of quotients rounded up: a count at a time, and less as the divisor grows (`antitone`).
-use mathlib.Core.Path.{◌≡◌, refl}
-use mathlib.Core.List.{List, [], ◌∷◌, ◌++◌}
-use Prim.Native.Nat.{ℕ, ◌+◌, ◌≤◌, ◌<◌}
-use native.Mathlib.Numerals.{add-one}
-use native.Mathlib.Omega.{arith}
-use lib.ListN.{length, get_or, take}
-use lib.Seq.{take-suc}
-use Rattle.planning.specs.Chunks.{rounded_up, chunks_for}
-use Rattle.planning.proofs.Quotients.{falls}
+-- The sum of quotients rounded up: less as the divisor grows (`antitone`), and what the code adds up (`added`, `fits`).
+use Rattle.std.proofs.Common.{◌≡◌, refl, ap₂, ◌∙◌, arith, List, [], ◌∷◌, ℕ, suc, ◌+◌, ◌*◌, ◌^◌, ◌≤◌, ◌<◌, length, get_or}
+use Rattle.std.specs.Int.{div_ceil}
+use Rattle.std.specs.List.{sum_by}
+use Rattle.std.proofs.lemmas.List.Sums.{sum_by-cons}
+use Rattle.planning.specs.Chunks.{chunks_for}
+use Rattle.planning.proofs.Quotients.{divided, falls, at_most}
 
 pub antitone : (counts : List ℕ) (n m : ℕ) → 0 < n → n ≤ m → chunks_for counts m ≤ chunks_for counts n
 unfolding chunks_for
 antitone [] n m some more = omega arith
 antitone (count ∷ counts) n m some more = omega (arith, falls count n m some more, antitone counts n m some more)
 
-pub joins : (n : ℕ) (xs ys : List ℕ) → chunks_for (xs ++ ys) n ≡ chunks_for xs n + chunks_for ys n
+-- what the code adds up: what `div_ceil` gives of each count
+pub added : (n : ℕ) → 0 < n → (counts : List ℕ) → sum_by (λ count. div_ceil count n) counts ≡ chunks_for counts n
 unfolding chunks_for
-joins n [] ys = omega arith
-joins n (x ∷ xs) ys = rw (joins n xs ys) (omega arith)
+added n some [] = refl
+added n some (count ∷ counts) =
+    sum_by-cons (λ c. div_ceil c n) count counts ∙ ap₂ (λ (s t : ℕ). s + t) (divided count n some) (added n some counts)
 
-pub none_yet : (n : ℕ) (xs : List ℕ) → 0 ≡ chunks_for (take 0 xs) n
+most : (n : ℕ) → 0 < n → (counts : List ℕ) → ((i : ℕ) → get_or counts i 0 ≤ 65536) → chunks_for counts n ≤ length counts * 65536
 unfolding chunks_for
-none_yet n xs = refl
+most n some [] small = omega arith
+most n some (count ∷ counts) small = omega (arith, small 0, at_most count n some, most n some counts (λ i. small (suc i)))
 
-pub one_more : (n : ℕ) (xs : List ℕ) (i : ℕ) → i < length xs → chunks_for (take (i + 1) xs) n ≡ chunks_for (take i xs) n + rounded_up (get_or xs i 0) n
-unfolding chunks_for
-one_more n xs i h = rw (add-one, take-suc xs i 0, joins) (omega arith)
+-- which is less than a u32 holds, for 64 counts of at most 65,536
+pub fits : (n : ℕ) → 0 < n → (counts : List ℕ) → length counts ≤ 64 → ((i : ℕ) → get_or counts i 0 ≤ 65536)
+    → sum_by (λ count. div_ceil count n) counts < 2 ^ 32
+fits n some counts few small = rw (added n some counts) (omega (arith, most n some counts small))

@@ -1,9 +1,10 @@
--- The least ratchet that lasts, and what the call promises by it.
-use Rattle.std.specs.Prelude.{◌≡◌, Bool, true, false, cond, List, ℕ, zero, suc, ◌≤◌, ◌<◌, eqb, leb}
+-- The least ratchet that lasts, and what the call answers and promises by it.
+use Rattle.std.specs.Prelude.{◌≡◌, Bool, false, cond, if◌then◌else◌, List, ℕ, zero, suc, ◌≤◌, ◌<◌, ◌==◌, eqb, leb, Option, Some, None, is_none, unwrap_or, Result, Ok, Err}
 use Rattle.scheme.specs.Rules.{refusal_by}
+use Rattle.scheme.specs.Answers.{refusal_number}
+use Rattle.scheme.specs.declared.Refusal.{Refusal}
+use Rattle.scheme.specs.declared.Refusal.TheVariants.{BadPlan}
 use Rattle.planning.specs.Chunks.{chunks_for, Lasts, bad_plan, plan_rules}
-use Rattle.planning.specs.declared.Ratchet.{Ratchet}
-use Rattle.planning.specs.declared.Ratchet.TheVariants.{Least, NoneLasts, Refused}
 
 -- of k ratchets from n on, the first with which so many chunks last, 0 where none does
 unfoldable pub first_lasting : List ℕ → ℕ → ℕ → ℕ → ℕ
@@ -32,24 +33,27 @@ pub record IsLeast (counts : List ℕ) (chunks n : ℕ) : Type 0 where
 abbrev pub NothingLasts : List ℕ → ℕ → Type 0
 NothingLasts counts chunks = (m : ℕ) → 1 ≤ m → m ≤ 256 → Lasts counts chunks m → ⊥
 
+-- what is answered to a plan: the least ratchet, `None` where none lasts, or that the plan is refused
+abbrev pub planned : List ℕ → ℕ → Result (Option ℕ) Refusal
+planned counts chunks =
+    let n = least_ratchet counts chunks in
+    if bad_plan counts chunks then Err BadPlan else Ok (if n == 0 then None else Some n)
+
 -- the refusal of an answer, 0 with none; its number, the ratchet, 0 where none lasts or the plan is refused; and whether it says that none lasts
-abbrev pub ratchet_refusal : Ratchet → ℕ
-ratchet_refusal (Least n) = 0
-ratchet_refusal NoneLasts = 0
-ratchet_refusal Refused = 25
+abbrev pub ratchet_refusal : Result (Option ℕ) Refusal → ℕ
+ratchet_refusal (Ok ratchet) = 0
+ratchet_refusal (Err refusal) = refusal_number refusal
 
-abbrev pub ratchet_number : Ratchet → ℕ
-ratchet_number (Least n) = n
-ratchet_number NoneLasts = 0
-ratchet_number Refused = 0
+abbrev pub ratchet_number : Result (Option ℕ) Refusal → ℕ
+ratchet_number (Ok ratchet) = unwrap_or ratchet 0
+ratchet_number (Err refusal) = 0
 
-abbrev pub ratchet_none : Ratchet → Bool
-ratchet_none (Least n) = false
-ratchet_none NoneLasts = true
-ratchet_none Refused = false
+abbrev pub ratchet_none : Result (Option ℕ) Refusal → Bool
+ratchet_none (Ok ratchet) = is_none ratchet
+ratchet_none (Err refusal) = false
 
--- what `least_ratchet` promises
-pub record Planned (counts : List ℕ) (chunks : ℕ) (r : Ratchet) : Type 0 where
+-- what `least_ratchet` promises by what it answers (`promised`)
+pub record Planned (counts : List ℕ) (chunks : ℕ) (r : Result (Option ℕ) Refusal) : Type 0 where
   pub refusal : ratchet_refusal r ≡ refusal_by (plan_rules counts chunks)
   pub number : ratchet_number r ≡ plan_number counts chunks
   pub none : ratchet_none r ≡ plan_none counts chunks

@@ -3,12 +3,13 @@
 
 ghost use Rattle.std.specs.Prelude.{◌≡◌, false};
 ghost use Rattle.planning.specs.Chunks.{bad_plan};
-ghost use Rattle.planning.specs.Ratchet.{Planned, Between};
+ghost use Rattle.planning.specs.Ratchet.{planned, Between};
 
 mod counting;
 
 use counting::chunks_for;
 use octets::memory::any_over;
+use scheme::Refusal;
 use scheme::ranges::outside;
 
 // The most counts, the largest of them, the most chunks of a card, and the largest ratchet.
@@ -20,26 +21,19 @@ const MOST_CHUNKS: u32 = 1024;
 
 const LARGEST_RATCHET: u32 = 256;
 
-// What is said of a plan: the least ratchet that lasts, that none does, or refused by 25, its only check.
-#[derive(Clone, Copy)]
-pub enum Ratchet {
-    Least(u32),
-    NoneLasts,
-    Refused,
-}
-
-// The least ratchet from 1 to 256 with which so many chunks last for the counts of entries, each count followed by a close.
-pub fn least_ratchet(counts: &[u32], chunks: u32) -> Ratchet
-    ensures { Planned counts.now chunks result }
+// The least ratchet from 1 to 256 with which so many chunks last for the counts of entries, each count followed by a close, `None` where none
+// lasts. Its only check is 25.
+pub fn least_ratchet(counts: &[u32], chunks: u32) -> Result<Option<u32>, Refusal>
+    ensures { result ≡ planned counts.now chunks }
 {
     if bad_plan(counts, chunks) {
-        return Ratchet::Refused;
+        return Err(Refusal::BadPlan);
     }
     let n = halved(counts, chunks);
     if LARGEST_RATCHET < n {
-        return Ratchet::NoneLasts;
+        return Ok(None);
     }
-    Ratchet::Least(n)
+    Ok(Some(n))
 }
 
 // 25: too many counts, a count too large, or a chunk count that no card has.
@@ -56,7 +50,7 @@ fn bad_plan(counts: &[u32], chunks: u32) -> bool
 }
 
 // The first ratchet from which on the chunks last, one past the largest where none does. Since a larger ratchet never takes more
-// chunks, each test halves what is left.
+// chunks, each test halves what is left. A range has no `partition_point`, and `find` would make up to 256 sums in place of nine.
 fn halved(counts: &[u32], chunks: u32) -> u32
     requires { bad_plan counts.now chunks ≡ false }
     ensures { Between counts.now chunks result result }
