@@ -2,6 +2,11 @@ use Rattle.std.proofs.Common.{sym, ◌∙◌, arith}
 use Rattle.scheme.proofs.Bytes.{not_all_zero, zero_so_far, none_nonzero}
 use Rattle.octets.proofs.by_bytes.all_zero_by_bytes.Goals as goal
 
+pub returns : goal.returns
+returns c =
+    let l = c.loop-byte in
+    sym (l.invariant ∙ none_nonzero _ l.byte-index (omega arith))
+
 pub returns-then-byte-ne0 : goal.returns-then-byte-ne0
 returns-then-byte-ne0 c =
     let l = c.loop-byte in
@@ -11,8 +16,3 @@ pub loop-byte-preserved : goal.loop-byte-preserved
 loop-byte-preserved c =
     let l = c.loop-byte in
     l.invariant ∙ zero_so_far _ l.byte-index (omega arith) (omega (arith, c.if-byte-ne0.false))
-
-pub returns : goal.returns
-returns c =
-    let l = c.loop-byte in
-    sym (l.invariant ∙ none_nonzero _ l.byte-index (omega arith))
