@@ -77,11 +77,7 @@ fn cut(output: [u8; 32], wanted: usize) -> [u8; 32]
         return output;
     }
     let mut t = [0; 32];
-    let mut i = 0;
-    while i < wanted {
-        t[i] = output[i];
-        i += 1;
-    }
+    t[..wanted].copy_from_slice(&output[..wanted]);
     t
 }
 
@@ -101,8 +97,8 @@ fn masked(block: [u8; 64], p: u8) -> [u8; 64]
     ensures { result ≡ map (λ k. bit_xor k p) block }
 {
     let mut b = block;
-    for i in 0..64 {
-        b[i] = b[i] ^ p;
+    for x in &mut b {
+        *x ^= p;
     }
     b
 }

@@ -81,7 +81,7 @@ impl Sha256 {
         if part.len() < free {
             return self.held(part);
         }
-        let length = std::num::wrapping_add_u64(self.length, part.len() as u64);
+        let length = self.length.wrapping_add(part.len() as u64);
         let words = self.words;
         if n == 0 {
             return whole(words, part, length);
@@ -97,7 +97,7 @@ impl Sha256 {
         ensures { (m : List ℕ) → Stands self m → Stands result (m ++ part.now) }
     {
         let n = (self.length % 64) as usize;
-        let length = std::num::wrapping_add_u64(self.length, part.len() as u64);
+        let length = self.length.wrapping_add(part.len() as u64);
         let words = self.words;
         let block = self.block;
         Self {
@@ -130,7 +130,7 @@ impl Sha256 {
     pub fn finish_part(self, part: &[u8]) -> [u8; 32]
         ensures { (m : List ℕ) → Stands self m → length m % 64 ≡ 0 → result ≡ Fips.sha256 (m ++ part.now) }
     {
-        let count = std::num::wrapping_add_u64(self.length, part.len() as u64);
+        let count = self.length.wrapping_add(part.len() as u64);
         let words = self.words;
         let at = part.len() / 64 * 64;
         ended(blocks(words, part), &part[at..], count)
@@ -180,18 +180,12 @@ fn ended(words: Words, rest: &[u8], count: u64) -> [u8; 32]
     digest(blocks(blocks(words, &last), &end))
 }
 
-// The block with the length in bits as its last 8 bytes: written one by one, they become one store.
+// The block with the length in bits as its last 8 bytes.
 fn with_length(block: [u8; 64], count: u64) -> [u8; 64]
     ensures { result ≡ take 56 block ++ Fips.big_endian 8 (8 * count) ++ drop 64 block }
 {
-    let mut n = count % 0x2000000000000000 * 8;
     let mut b = block;
-    let mut i = 64;
-    while 56 < i {
-        i -= 1;
-        b[i] = (n % 256) as u8;
-        n = n / 256;
-    }
+    b[56..].copy_from_slice(&count.wrapping_mul(8).to_be_bytes());
     b
 }
 
@@ -211,11 +205,7 @@ fn put(block: [u8; 64], at: usize, part: &[u8]) -> [u8; 64]
     ensures { result ≡ take at block ++ part.now ++ drop (at + length part.now) block }
 {
     let mut b = block;
-    let mut i = 0;
-    while i < part.len() {
-        b[at + i] = part[i];
-        i += 1;
-    }
+    b[at..at + part.len()].copy_from_slice(part);
     b
 }
 
@@ -232,28 +222,12 @@ fn digest(s: Words) -> [u8; 32]
     put_word(d, 28, s.h)
 }
 
-// The bytes with a word's written at a place: copied from an array of four, they become one store.
+// The bytes with a word's written at a place.
 fn put_word(d: [u8; 32], at: usize, x: u32) -> [u8; 32]
     requires { at + 4 ≤ 32 }
     ensures { result ≡ take at d ++ Fips.big_endian 4 x ++ drop (at + 4) d }
 {
-    let word = word_bytes(x);
     let mut b = d;
-    let mut i = 0;
-    while i < 4 {
-        b[at + i] = word[i];
-        i += 1;
-    }
+    b[at..at + 4].copy_from_slice(&x.to_be_bytes());
     b
-}
-
-fn word_bytes(x: u32) -> [u8; 4]
-    ensures { result ≡ Fips.big_endian 4 x }
-{
-    [
-        (x / 256 / 256 / 256 % 256) as u8,
-        (x / 256 / 256 % 256) as u8,
-        (x / 256 % 256) as u8,
-        (x % 256) as u8,
-    ]
 }
