@@ -6,7 +6,8 @@ ghost use Rattle.sha256.specs.State.{Held, Stands};
 use compression::blocks;
 use compression::words::Words;
 
-// The words after the whole blocks, the bytes after them with zeros behind them, and the length so far.
+// The words after the whole blocks, the bytes after them with zeros behind them, and the length so far. No heap: the bytes stand in an array.
+// The methods copy words and bytes before they pass them on: passed from where they stand, a short message takes 2 % longer.
 #[derive(Clone, Copy)]
 pub struct Sha256 {
     pub words: Words,
