@@ -1,38 +1,60 @@
-// Lengths within memory, and memory filled or written.
-ghost use Rattle.std.specs.Prelude.{◌≤◌, length};
+// Memory of a fixed size, of which the calls are lent a part from its start on.
+ghost use Rattle.std.specs.Prelude.{◌≡◌, ◌≤◌, ◌<◌, ℕ, take, min, slice_index};
 
-// The number, or the most that it may be.
-pub fn at_most(most: usize, n: usize) -> usize
-    ensures { (result ≤ most) × (result ≤ n) }
-{
-    if n < most { n } else { most }
+#[derive(Clone, Copy)]
+pub struct Memory<const N: usize> {
+    pub bytes: [u8; N],
+    pub lent: usize,
+    ghost inside: { lent ≤ N },
 }
 
-// The length, or the memory's where that is less.
-pub fn within(n: usize, memory: &[u8]) -> usize
-    ensures { result ≤ length memory.now }
-{
-    if n < memory.len() {
-        return n;
+impl<const N: usize> Memory<N> {
+    // Zeros, of which nothing is lent.
+    pub fn new() -> Self
+        ensures { result.lent ≡ 0 }
+    {
+        Memory {
+            bytes: [0; N],
+            lent: 0,
+        }
     }
-    memory.len()
-}
 
-// The value in every byte.
-pub fn fill(memory: &mut [u8], value: u8) {
-    let mut i = 0;
-    while i < memory.len() {
-        memory[i] = value;
-        i += 1;
+    // The part that is lent.
+    pub fn lent(&self) -> &[u8]
+        ensures { result.now ≡ take self.now.lent self.now.bytes }
+    {
+        &self.bytes[..self.lent]
     }
-}
 
-// The bytes written to the front of the memory, as far as it goes.
-pub fn copy(memory: &mut [u8], bytes: &[u8]) {
-    let n = at_most(memory.len(), bytes.len());
-    let mut i = 0;
-    while i < n {
-        memory[i] = bytes[i];
-        i += 1;
+    pub fn lent_mut(&mut self) -> &mut [u8]
+        ensures { result.now ≡ take self.old.lent self.old.bytes }
+    {
+        let n = self.lent;
+        // An array of N elements is lent whole before a part of it is.
+        let bytes = &mut self.bytes;
+        let bytes = &mut bytes[..];
+        &mut bytes[..n]
+    }
+
+    // So many bytes from the start on, at most all, whether they are lent or not.
+    pub fn front(&self, n: usize) -> &[u8]
+        ensures { result.now ≡ take n self.now.bytes }
+    {
+        &self.bytes[..n.min(N)]
+    }
+
+    // Lends so many bytes, at most all; those beyond the ones that were lent are zeros.
+    pub fn resize(&mut self, n: usize)
+        ensures lent { self.new.lent ≡ min n N }
+        ensures kept { take self.old.lent self.new.bytes ≡ take self.old.lent self.old.bytes }
+        ensures zeros { (k : ℕ) → self.old.lent ≤ k → k < self.new.lent → slice_index self.new.bytes k ≡ 0 }
+    {
+        let old = self.lent;
+        let new = n.min(N);
+        if old < new {
+            let bytes = &mut self.bytes[..];
+            bytes[old..new].fill(0);
+        }
+        self.lent = new;
     }
 }

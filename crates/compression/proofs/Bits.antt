@@ -4,6 +4,8 @@ use Rattle.std.proofs.Common.{◌≡◌, ℕ, zero, suc, ◌+◌, ◌-◌, ◌*�
 use native.Mathlib.Nat.{mul-mod_left, mul-add-div_right, mul-add-mod_self_right}
 use lib.Bits.{bit_or, and_comm, and_mask, and_mod, and_shr, or_lt, or_shifted_r, xor_add_and, xor_block, xor_lt, xor_mod, xor_shr}
 use lib.Pow.{mod-pow-add, shl-shr, shr_le}
+use Rattle.std.specs.Int.{w32, rotate_right}
+use Rattle.std.specs.Int.Bits.{xor_assoc}
 use Rattle.compression.specs.Fips.{◌&◌, ◌⊕◌, rotr, Ch, Maj}
 
 -- ---- identities that hold bit by bit
@@ -74,9 +76,6 @@ module _ (s t : Formula) (same : table s ≡ table t) where
   pub by_bits : (a b c : ℕ) → value s a b c ≡ value t a b c
   unfolding Same
   by_bits a b c = same_below (a + b + c) a b c (le_refl (a + b + c))
-
-pub xor_assoc : (a b c : ℕ) → (a ⊕ b) ⊕ c ≡ a ⊕ b ⊕ c
-xor_assoc = by_bits (xor (xor A B) C) (xor A (xor B C)) refl
 
 pub xor_and : (a b c : ℕ) → (a ⊕ b) & c ≡ (a & c) ⊕ (b & c)
 xor_and = by_bits (and (xor A B) C) (xor (and A C) (and B C)) refl
@@ -170,6 +169,22 @@ rotr_rotr n m {x} h hx =
 pub rotr_nested : (n m : ℕ) {x y : ℕ} → n + m ≤ 32 → x < 2 ^ 32 → y < 2 ^ 32 → rotr n (x ⊕ rotr m y) ≡ rotr n x ⊕ rotr (n + m) y
 rotr_nested n m {x} {y} h hx hy = rotr_xor n (omega arith) hx (rotr_lt m hy) ∙ ap (λ (w : ℕ). rotr n x ⊕ w) (rotr_rotr n m h hy)
 
+-- std's rotation by less than the whole word is the standard's
+pub rotate_rotr : (n x : ℕ) → 0 < n → n < 32 → rotate_right w32 x n ≡ rotr n x
+unfolding rotr
+rotate_rotr n x some few =
+    let amount : n % 32 ≡ n = omega arith in
+    let other : (32 - n % 32) % 32 ≡ 32 - n = omega arith in
+    ap₂ (λ (i j : ℕ). bit_or (x / 2 ^ i) (x * 2 ^ j % 2 ^ 32)) amount other
+
 -- the form that the sigmas are computed in
-pub two_rotations : (n m x w : ℕ) → n + m ≤ 32 → x < 2 ^ 32 → rotr n (x ⊕ rotr m x) ⊕ w ≡ rotr n x ⊕ rotr (n + m) x ⊕ w
-two_rotations n m x w h hx = ap (λ (v : ℕ). v ⊕ w) (rotr_nested n m h hx hx) ∙ xor_assoc (rotr n x) (rotr (n + m) x) w
+pub two_rotations : (n m x : ℕ) {y z : ℕ} → 0 < n → 0 < m → n + m < 32 → x < 2 ^ 32 → y ≡ rotate_right w32 x m → z ≡ rotate_right w32 (x ⊕ y) n
+    → z ≡ rotr n x ⊕ rotr (n + m) x
+two_rotations n m x some more h hx inner outer =
+    outer ∙ rotate_rotr n _ some (omega arith)
+    ∙ ap (λ (w : ℕ). rotr n (x ⊕ w)) (inner ∙ rotate_rotr m x more (omega arith))
+    ∙ rotr_nested n m (omega arith) hx hx
+
+-- a third term behind them
+pub and_third : (x y : ℕ) {r w v : ℕ} → r ≡ x ⊕ y → w ≡ v → r ⊕ w ≡ x ⊕ y ⊕ v
+and_third x y {v = v} two third = ap₂ ◌⊕◌ two third ∙ xor_assoc x y v

@@ -1,16 +1,14 @@
 -- Laws of the hash value after some blocks of a message (FIPS 180-4, 6.2.2). Assumes nothing.
-use Rattle.std.proofs.Common.{◌≡◌, ℕ, zero, suc, ◌+◌, ◌-◌, ◌*◌, ◌≤◌, List, ◌++◌, length, take, drop, sym, refl, ap, ◌∙◌, ap₂, add-zero, add-suc, mul_comm, mul-add, add-one, arith, length-drop, drop-drop}
+use Rattle.std.proofs.Common.{◌≡◌, ℕ, zero, suc, ◌+◌, ◌*◌, ◌<◌, ◌≤◌, List, ◌++◌, length, get_or, take, drop, sym, refl, ap, ◌∙◌, ap₂, add-zero, add-suc, mul-add, add-one, one-add, arith, length-drop, drop-drop}
 use lib.Seq.{take-append-le, drop-append-le}
+use Rattle.std.specs.Simd.{first_chunks}
 use Rattle.compression.specs.Fips.{block, compress, hashed}
 use Rattle.compression.specs.declared.words.Words.{Words}
 
 -- a block more
-pub block_more : (s : Words) (m : List ℕ) (i : ℕ) (v r : Words) → v ≡ hashed s m i
-    → r ≡ compress v (take (i * 64 + 64 - i * 64) (drop (i * 64) m)) → r ≡ hashed s m (i + 1)
-unfolding hashed block
-block_more s m i v r e f =
-    let size : i * 64 + 64 - i * 64 ≡ 64 = omega arith in
-    rw (add-one i) (f ∙ ap₂ (λ x n. compress x (take n (drop (i * 64) m))) e size ∙ ap (λ n. compress (hashed s m i) (take 64 (drop n m))) (mul_comm i 64))
+pub block_more : (s : Words) (m b : List ℕ) (i : ℕ) (v r : Words) → v ≡ hashed s m i → b ≡ block m i → r ≡ compress v b → r ≡ hashed s m (i + 1)
+unfolding hashed
+block_more s m b i v r e f g = rw (add-one i) (g ∙ ap₂ compress e f)
 
 block_append : (p q : List ℕ) (i : ℕ) → 64 * i + 64 ≤ length p → block (p ++ q) i ≡ block p i
 unfolding block
@@ -20,6 +18,13 @@ block_append p q i h =
 block_drop : (m : List ℕ) (a i : ℕ) → block (drop (64 * a) m) i ≡ block m (a + i)
 unfolding block
 block_drop m a i = ap (take 64) (drop-drop (64 * i) (64 * a) m ∙ ap (λ (k : ℕ). drop k m) (sym (mul-add 64 a i)))
+
+-- a message's blocks are its chunks of 64 bytes
+pub chunk_at : (n i : ℕ) (m d : List ℕ) → i < n → get_or (first_chunks 64 n m) i d ≡ block m i
+unfolding block
+chunk_at zero i m d h = absurd (omega arith)
+chunk_at (suc n) zero m d h = refl
+chunk_at (suc n) (suc i) m d h = chunk_at n i (drop 64 m) d (omega arith) ∙ block_drop m 1 i ∙ ap (block m) (one-add i)
 
 -- what follows does not change the blocks before it
 pub hashed_append : (s : Words) (p q : List ℕ) (n : ℕ) → 64 * n ≤ length p → hashed s (p ++ q) n ≡ hashed s p n

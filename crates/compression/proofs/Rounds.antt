@@ -1,21 +1,11 @@
 -- Laws of the message schedule and of the rounds (FIPS 180-4, 6.2.2), and what one turn of the compression keeps.
-use Rattle.std.proofs.Common.{◌≡◌, ℕ, zero, suc, ◌+◌, ◌-◌, ◌<◌, ◌≤◌, List, [], ◌∷◌, ◌++◌, length, get_or, drop, sym, refl, ap, ◌∙◌, subst, ap₂, add-suc, add_comm, suc-add, zero-add, add-one, arith, length-append, length-drop, get_or-drop, drop-cons, drop-drop}
-use Prim.Native.Nat.{compare}
-use native.Mathlib.Bridge.{le_by_compare, IsLe}
+use Rattle.std.proofs.Common.{◌≡◌, ℕ, zero, suc, ◌+◌, ◌-◌, ◌<◌, ◌≤◌, List, [], ◌∷◌, ◌++◌, length, get_or, drop, sym, refl, ap, ◌∙◌, ap₂, add-suc, add_comm, suc-add, zero-add, add-one, arith, length-append, length-drop, get_or-drop, drop-cons, drop-drop}
 use lib.ListN.{get_or-append}
 use lib.Seq.{drop-length, drop-append-le}
 use Rattle.compression.specs.Fips.{◌⊞◌, σ₀, σ₁, words, schedule, W, K, round, rounds, added, compress}
 use Rattle.compression.specs.Rounds.{entries, slide, Reached}
 use Rattle.compression.specs.declared.words.Words.{Words}
 use Rattle.compression.specs.declared.Working.{Working}
-
--- the bytes of a block
-pub byte_inside : (i : ℕ) {n : ℕ} → IsLe (compare (suc i) 64) → n ≡ 64 → i < n
-byte_inside i l e = subst (λ n. i < n) (sym e) (le_by_compare (suc i) 64 l)
-
--- a sum of words
-pub sum : {r x y a b : ℕ} → r ≡ x ⊞ y → x ≡ a → y ≡ b → r ≡ a ⊞ b
-sum e f g = e ∙ ap₂ ◌⊞◌ f g
 
 -- the schedule's length, and that its words stay what they are
 pub schedule_length : (b : List ℕ) (n : ℕ) → length (schedule b n) ≡ 16 + n
@@ -98,9 +88,6 @@ rounds_begun k b s v e f =
           (λ t l. ap (λ ys. get_or ys t 0) e ∙ sym (W_at b 0 t (omega arith) (omega arith)));
       window = e;
     }
-
-pub reached_at : {k b : List ℕ} {s : Words} {n m : ℕ} {v : Working} → n ≡ m → Reached k b s n v → Reached k b s m v
-reached_at {k} {b} {s} {n} {m} {v} e r = subst (λ i. Reached k b s i v) e r
 
 -- after 64 rounds the sums give the next hash value
 pub ended : {k b : List ℕ} {s : Words} {n : ℕ} {v : Working} (r : Words) → k ≡ K → n ≡ 48 → Reached k b s n v → r ≡ added v.s s

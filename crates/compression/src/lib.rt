@@ -8,7 +8,6 @@ ghost use Rattle.compression.specs.Rounds.{After, Reached, slide};
 
 pub mod words;
 
-use std::num::wrapping_add_u32;
 use words::{Words, ch, lower_sigma0, lower_sigma1, maj, upper_sigma0, upper_sigma1};
 
 // The constants of 4.2.2.
@@ -35,20 +34,16 @@ pub fn blocks(s: Words, part: &[u8]) -> Words
     ensures { result ≡ Fips.hashed s part.now (length part.now / 64) }
 {
     let k = &K;
-    let n = part.len() / 64;
+    let (blocks, _) = part.as_chunks::<64>();
     let mut v = s;
-    let mut i = 0;
-    while i < n {
-        let a = i * 64;
-        let e = a + 64;
-        v = compress(v, &part[a..e], k);
-        i += 1;
+    for b in blocks {
+        v = compress(v, b, k);
     }
     v
 }
 
-fn compress(s: Words, b: &[u8], k: &[u32; 64]) -> Words
-    requires { (length b.now ≡ 64) × (k.now ≡ Fips.K) }
+fn compress(s: Words, b: &[u8; 64], k: &[u32; 64]) -> Words
+    requires { k.now ≡ Fips.K }
     ensures { result ≡ Fips.compress s b.now }
 {
     let w = load(b);
@@ -61,45 +56,27 @@ fn compress(s: Words, b: &[u8], k: &[u32; 64]) -> Words
 }
 
 // The words of a block.
-fn load(b: &[u8]) -> [u32; 16]
-    requires { length b.now ≡ 64 }
+fn load(b: &[u8; 64]) -> [u32; 16]
     ensures { result ≡ Fips.words b.now 16 }
 {
-    [
-        word(b, 0),
-        word(b, 1),
-        word(b, 2),
-        word(b, 3),
-        word(b, 4),
-        word(b, 5),
-        word(b, 6),
-        word(b, 7),
-        word(b, 8),
-        word(b, 9),
-        word(b, 10),
-        word(b, 11),
-        word(b, 12),
-        word(b, 13),
-        word(b, 14),
-        word(b, 15),
-    ]
+    let mut w = [0; 16];
+    for j in 0..16 {
+        w[j] = word(b, j);
+    }
+    w
 }
 
-fn word(b: &[u8], j: usize) -> u32
-    requires { 4 * j + 3 < length b.now }
+fn word(b: &[u8; 64], j: usize) -> u32
+    requires { j < 16 }
     ensures { result ≡ Fips.word b.now j }
 {
     let at = 4 * j;
-    (wide(b[at]) * 256 + wide(b[at + 1])) * 65536 + (wide(b[at + 2]) * 256 + wide(b[at + 3]))
+    // By u32::from_be_bytes a block takes 1.5 % more instructions.
+    (u32::from(b[at]) * 256 + u32::from(b[at + 1])) * 65536
+        + (u32::from(b[at + 2]) * 256 + u32::from(b[at + 3]))
 }
 
-fn wide(x: u8) -> u32
-    ensures { (result ≡ x) × (result < 256) }
-{
-    x as u32
-}
-
-// The first 16 rounds, on the words of the block.
+// The first 16 rounds, on the words of the block. Written out as the others are.
 fn first(s: Words, k: &[u32; 64], w: [u32; 16]) -> Words
     ensures { result ≡ Fips.rounds (λ t. slice_index k.now t) (λ t. slice_index w t) 16 s }
 {
@@ -207,29 +184,28 @@ fn next(w: [u32; 16]) -> [u32; 16]
 fn schedule_word(w2: u32, w7: u32, w15: u32, w16: u32) -> u32
     ensures { result ≡ Fips.σ₁ w2 ⊞ w7 ⊞ Fips.σ₀ w15 ⊞ w16 }
 {
-    wrapping_add_u32(
-        wrapping_add_u32(wrapping_add_u32(lower_sigma1(w2), w7), lower_sigma0(w15)),
-        w16,
-    )
+    lower_sigma1(w2)
+        .wrapping_add(w7)
+        .wrapping_add(lower_sigma0(w15))
+        .wrapping_add(w16)
 }
 
 fn round(s: Words, k: u32, w: u32) -> Words
     ensures { result ≡ Fips.round s k w }
 {
-    let t1 = wrapping_add_u32(
-        wrapping_add_u32(
-            wrapping_add_u32(wrapping_add_u32(s.h, upper_sigma1(s.e)), ch(s.e, s.f, s.g)),
-            k,
-        ),
-        w,
-    );
-    let t2 = wrapping_add_u32(upper_sigma0(s.a), maj(s.a, s.b, s.c));
+    let t1 = s
+        .h
+        .wrapping_add(upper_sigma1(s.e))
+        .wrapping_add(ch(s.e, s.f, s.g))
+        .wrapping_add(k)
+        .wrapping_add(w);
+    let t2 = upper_sigma0(s.a).wrapping_add(maj(s.a, s.b, s.c));
     Words {
-        a: wrapping_add_u32(t1, t2),
+        a: t1.wrapping_add(t2),
         b: s.a,
         c: s.b,
         d: s.c,
-        e: wrapping_add_u32(s.d, t1),
+        e: s.d.wrapping_add(t1),
         f: s.e,
         g: s.f,
         h: s.g,
@@ -240,13 +216,13 @@ fn added(s: Words, v: Words) -> Words
     ensures { result ≡ Fips.added s v }
 {
     Words {
-        a: wrapping_add_u32(s.a, v.a),
-        b: wrapping_add_u32(s.b, v.b),
-        c: wrapping_add_u32(s.c, v.c),
-        d: wrapping_add_u32(s.d, v.d),
-        e: wrapping_add_u32(s.e, v.e),
-        f: wrapping_add_u32(s.f, v.f),
-        g: wrapping_add_u32(s.g, v.g),
-        h: wrapping_add_u32(s.h, v.h),
+        a: s.a.wrapping_add(v.a),
+        b: s.b.wrapping_add(v.b),
+        c: s.c.wrapping_add(v.c),
+        d: s.d.wrapping_add(v.d),
+        e: s.e.wrapping_add(v.e),
+        f: s.f.wrapping_add(v.f),
+        g: s.g.wrapping_add(v.g),
+        h: s.h.wrapping_add(v.h),
     }
 }

@@ -1,5 +1,5 @@
 // The words of an intermediate hash value, which are also the working variables, and the functions of FIPS 180-4 on words.
-ghost use Rattle.std.specs.Prelude.{◌≡◌, ◌<◌};
+ghost use Rattle.std.specs.Prelude.{◌≡◌, ◌+◌, ◌<◌, bit_xor};
 ghost use Rattle.compression.specs.Fips as Fips;
 
 #[derive(Clone, Copy)]
@@ -12,13 +12,6 @@ pub struct Words {
     pub f: u32,
     pub g: u32,
     pub h: u32,
-}
-
-fn rotr(x: u32, n: u32) -> u32
-    requires { (0 < n) × (n < 32) }
-    ensures { result ≡ Fips.rotr n x }
-{
-    (x >> n) | (x << (32 - n))
 }
 
 // Ch and Maj with an operation less than the standard's form has.
@@ -38,23 +31,31 @@ pub fn maj(x: u32, y: u32, z: u32) -> u32
 pub fn upper_sigma0(x: u32) -> u32
     ensures { result ≡ Fips.Σ₀ x }
 {
-    rotr(x ^ rotr(x, 11), 2) ^ rotr(x, 22)
+    rotations::<2, 11>(x) ^ x.rotate_right(22)
 }
 
 pub fn upper_sigma1(x: u32) -> u32
     ensures { result ≡ Fips.Σ₁ x }
 {
-    rotr(x ^ rotr(x, 5), 6) ^ rotr(x, 25)
+    rotations::<6, 5>(x) ^ x.rotate_right(25)
 }
 
 pub fn lower_sigma0(x: u32) -> u32
     ensures { result ≡ Fips.σ₀ x }
 {
-    rotr(x ^ rotr(x, 11), 7) ^ (x >> 3)
+    rotations::<7, 11>(x) ^ (x >> 3)
 }
 
 pub fn lower_sigma1(x: u32) -> u32
     ensures { result ≡ Fips.σ₁ x }
 {
-    rotr(x ^ rotr(x, 2), 17) ^ (x >> 10)
+    rotations::<17, 2>(x) ^ (x >> 10)
+}
+
+// The rotations by A and by A + B, summed.
+fn rotations<const A: u32, const B: u32>(x: u32) -> u32
+    requires { (0 < A) × (0 < B) × (A + B < 32) }
+    ensures { result ≡ bit_xor (Fips.rotr A x) (Fips.rotr (A + B) x) }
+{
+    (x ^ x.rotate_right(B)).rotate_right(A)
 }

@@ -1,28 +1,15 @@
 -- Laws of an output that is cut: byte after byte, and at its full length, where it stays whole. An HMAC is a digest, so it has 32 bytes, whatever
 -- is hashed.
-use mathlib.Core.Path.{◌≡◌, refl, sym, ap, ◌∙◌}
-use mathlib.Core.List.{List, [], ◌∷◌, ◌++◌, append_assoc, append-nil}
+use mathlib.Core.Path.{◌≡◌, refl, ap, ◌∙◌}
+use mathlib.Core.List.{List, ◌++◌, append-nil}
 use mathlib.Core.Logic.{by_cases}
-use Prim.Native.Nat.{ℕ, suc, ◌+◌, ◌-◌, ◌<◌, ◌≤◌}
+use Prim.Native.Nat.{ℕ, ◌-◌, ◌<◌, ◌≤◌}
 use native.Mathlib.Decide.{dec_lt}
-use native.Mathlib.Numerals.{add-one}
 use native.Mathlib.Omega.{arith}
-use lib.ListN.{length, get_or, set, take, drop, replicate}
-use lib.Seq.{set_at, take-suc, take_all, take-take, take-append-le, drop_at, length-take-le}
+use lib.ListN.{length, take, drop, replicate}
+use lib.Seq.{take_all, take-take, take-append-le, drop_at, length-take-le}
 use Rattle.compression.specs.Fips.{sha256}
 use Rattle.hmac.specs.Rfc2104.{masked, ipad, opad, hmac, cut, tagged}
-
--- one byte more
-pub cut_more : (output : List ℕ) (i j : ℕ) → j ≡ i → i < 32 → i < length output → set (cut i output) i (get_or output j 0) ≡ cut (i + 1) output
-unfolding cut
-cut_more output i j same more within =
-    let left : 32 - i ≡ suc (32 - (i + 1)) = omega arith in
-    let rest : List ℕ = replicate (32 - (i + 1)) 0 in
-    ap (λ k. set (take i output ++ replicate (32 - i) 0) i (get_or output k 0)) same ∙
-    ap (λ k. set (take i output ++ replicate k 0) i (get_or output i 0)) left ∙
-    set_at (take i output) 0 rest (get_or output i 0) i (length-take-le i output (omega arith)) ∙
-    sym (append_assoc (take i output) (get_or output i 0 ∷ []) rest) ∙
-    ap (λ l. l ++ rest) (sym (take-suc output i 0 within) ∙ ap (λ k. take k output) (sym (add-one i)))
 
 -- a cut at the full length or behind it is the whole output
 pub cut_whole : (output : List ℕ) (t : ℕ) → length output ≡ 32 → 32 ≤ t → cut t output ≡ output

@@ -1,14 +1,15 @@
 -- Laws of a list that is mapped from its front on, and of the padded key.
 use mathlib.Core.Path.{◌≡◌, refl, sym, ◌∙◌, ap, subst}
 use mathlib.Core.Bool.{Bool, true, false}
-use mathlib.Core.List.{List, ◌++◌, map, map-append, append-nil}
-use Prim.Native.Nat.{ℕ, suc, ◌-◌, ◌<◌, ◌≤◌}
+use mathlib.Core.List.{List, ◌++◌, map, map-append}
+use Prim.Native.Nat.{ℕ, suc, ◌+◌, ◌-◌, ◌<◌, ◌≤◌}
+use native.Mathlib.Numerals.{add-one}
 use native.Mathlib.Omega.{arith}
 use borrow.Author.Tests.{le-leb, lt-leb, leb-true}
 use lib.Dec.{leb, lit≤}
 use lib.Bits.{bit_xor}
 use lib.ListN.{length, get_or, take, drop, set, replicate, length-append, length-map, length-replicate}
-use lib.Seq.{drop-cons, take-suc, length-take-le, append_snoc, set_at, get_or_at, take_all, drop-length}
+use lib.Seq.{drop-cons, take-suc, length-take-le, append_snoc, set_at, get_or_at, take_all}
 use Rattle.compression.specs.Fips.{sha256}
 use Rattle.sha256.specs.State.{Stands}
 use Rattle.sha256.specs.declared.state.Sha256.{Sha256}
@@ -22,17 +23,18 @@ module _ (f : ℕ → ℕ) (l : List ℕ) (i : ℕ) (within : i < length l) wher
   front : length (map f (take i l)) ≡ i
   front = length-map (take i l) f ∙ length-take-le i l (omega arith)
 
-  pub mapped_at : get_or (mapped f l i) i 0 ≡ get_or l i 0
+  mapped_at : get_or (mapped f l i) i 0 ≡ get_or l i 0
   mapped_at = rw (drop-cons l i 0 within) (get_or_at (map f (take i l)) (get_or l i 0) (drop (suc i) l) 0 i front)
 
-  pub mapped_more : set (mapped f l i) i (f (get_or l i 0)) ≡ mapped f l (suc i)
-  mapped_more =
+  mapped_set : set (mapped f l i) i (f (get_or l i 0)) ≡ mapped f l (suc i)
+  mapped_set =
       rw (drop-cons l i 0 within)
       (set_at (map f (take i l)) (get_or l i 0) (drop (suc i) l) (f (get_or l i 0)) i front ∙
       sym (rw (take-suc l i 0 within, map-append) (append_snoc (map f (take i l)) (f (get_or l i 0)) (drop (suc i) l))))
 
-pub mapped_all : (f : ℕ → ℕ) (l : List ℕ) (n : ℕ) → length l ≡ n → mapped f l n ≡ map f l
-mapped_all f l n e = rw (← e) (ap (λ xs. map f xs ++ drop (length l) l) (take_all (length l) l (omega arith)) ∙ ap (λ xs. map f l ++ xs) (drop-length l) ∙ append-nil (map f l))
+  -- one entry more
+  pub mapped_more : {b : List ℕ} → b ≡ mapped f l i → set b i (f (get_or b i 0)) ≡ mapped f l (i + 1)
+  mapped_more so_far = rw so_far (rw (mapped_at, add-one) mapped_set)
 
 -- a short key with zeros behind it is the padded key
 pub padded_block : (key short block : List ℕ) → shortened key ≡ short → length short ≤ 64

@@ -1,4 +1,3 @@
 -- The laws that the functions' proofs cite.
 pub mod Keys
 pub mod Cuts
-pub mod Answers

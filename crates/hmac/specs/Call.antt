@@ -1,10 +1,9 @@
--- What the public call answers: the tag of the length wanted, or refusal 1 or 26 and 32 zeros.
-use Rattle.std.specs.Prelude.{◌≡◌, Bool, true, false, List, ℕ, leb}
-use Rattle.sha256.specs.Call.{within, bytes_if}
+-- What the public call answers: the tag of the length wanted, or refusal 1 or 26.
+use Rattle.std.specs.Prelude.{Bool, true, false, List, ℕ, leb, Result, Ok, Err, if◌then◌else◌}
+use Rattle.sha256.specs.Call.{within}
 use Rattle.hmac.specs.Rfc2104.{tagged}
-use Rattle.hmac.specs.declared.Answer.{Answer}
-use Rattle.hmac.specs.declared.Outcome.{Outcome}
-use Rattle.hmac.specs.declared.Outcome.TheVariants.{Done, TooLong, BadTagLength}
+use Rattle.hmac.specs.declared.TagError.{TagError}
+use Rattle.hmac.specs.declared.TagError.TheVariants.{TooLong, BadTagLength}
 
 abbrev pub both : Bool → Bool → Bool
 both true b = b
@@ -24,9 +23,8 @@ longest = 32
 abbrev pub may_be_wanted : ℕ → Bool
 may_be_wanted wanted = both (leb shortest wanted) (leb wanted longest)
 
--- the number of a refusal, 0 with none
-abbrev pub refusal_of : Outcome → ℕ
-refusal_of Done = 0
+-- the number of a refusal
+abbrev pub refusal_of : TagError → ℕ
 refusal_of TooLong = 1
 refusal_of BadTagLength = 26
 
@@ -36,6 +34,9 @@ refusal_if false may = 1
 refusal_if true false = 26
 refusal_if true true = 0
 
-pub record Tags (key m : List ℕ) (wanted : ℕ) (r : Answer) : Type 0 where
-  pub refusal : refusal_of r.outcome ≡ refusal_if (both_within key m) (may_be_wanted wanted)
-  pub bytes : r.bytes ≡ bytes_if (both (both_within key m) (may_be_wanted wanted)) (tagged key m wanted)
+-- refused by 1 first, then by 26, else the tag
+abbrev pub tag_under : List ℕ → List ℕ → ℕ → Result (List ℕ) TagError
+tag_under key m wanted =
+    if both_within key m
+    then if may_be_wanted wanted then Ok (tagged key m wanted) else Err BadTagLength
+    else Err TooLong

@@ -27,11 +27,9 @@ impl Hmac {
         ensures { Keyed result key.now front.now }
     {
         let block = padded(key);
-        let inner = masked(block, IPAD);
-        let outer = masked(block, OPAD);
         Self {
-            inner: Sha256::of_block_with(inner, front),
-            outer: Sha256::of_block(outer),
+            inner: Sha256::of_block_with(masked(block, IPAD), front),
+            outer: Sha256::of_block(masked(block, OPAD)),
         }
     }
 
@@ -39,11 +37,9 @@ impl Hmac {
     pub fn update(self, part: &[u8]) -> Self
         ensures { (key m : List ℕ) → Keyed self key m → Keyed result key (m ++ part.now) }
     {
-        let inner = self.inner;
-        let outer = self.outer;
         Self {
-            inner: inner.update(part),
-            outer,
+            inner: self.inner.update(part),
+            outer: self.outer,
         }
     }
 
@@ -51,10 +47,8 @@ impl Hmac {
     pub fn finish(self, wanted: usize) -> [u8; 32]
         ensures { (key m : List ℕ) → Keyed self key m → result ≡ Rfc2104.tagged key m wanted }
     {
-        let inner = self.inner;
-        let outer = self.outer;
-        let digest = inner.finish();
-        cut(outer.finish_with(digest), wanted)
+        let digest = self.inner.finish();
+        cut(self.outer.finish_with(digest), wanted)
     }
 }
 
@@ -77,11 +71,7 @@ fn cut(output: [u8; 32], wanted: usize) -> [u8; 32]
         return output;
     }
     let mut t = [0; 32];
-    let mut i = 0;
-    while i < wanted {
-        t[i] = output[i];
-        i += 1;
-    }
+    t[..wanted].copy_from_slice(&output[..wanted]);
     t
 }
 
@@ -101,8 +91,8 @@ fn masked(block: [u8; 64], p: u8) -> [u8; 64]
     ensures { result ≡ map (λ k. bit_xor k p) block }
 {
     let mut b = block;
-    for i in 0..64 {
-        b[i] = b[i] ^ p;
+    for x in &mut b {
+        *x ^= p;
     }
     b
 }

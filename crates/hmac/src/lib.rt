@@ -2,27 +2,47 @@
 // whole.
 #![tactic(auto)]
 
-ghost use Rattle.std.specs.Prelude.{◌≡◌, replicate};
-ghost use Rattle.hmac.specs.Call.{Tags};
+ghost use Rattle.std.specs.Prelude.{◌≡◌};
+ghost use Rattle.hmac.specs.Call.{refusal_of, tag_under};
 
 pub mod keyed;
 
 use keyed::tag;
 use sha256::LENGTH_LIMIT;
+use std::error::Error;
+use std::fmt;
 
-// How a call went: done, or refused because a message or a key is too long, or because the length wanted is outside 16 to 32.
-#[derive(Clone, Copy)]
-pub enum Outcome {
-    Done,
+// Why a call is refused: a message or a key is too long, or the length wanted is outside 16 to 32.
+#[derive(Clone, Copy, Debug, PartialEq, Eq)]
+pub enum TagError {
     TooLong,
     BadTagLength,
 }
 
-// The outcome, and 32 bytes: the tag, as long as wanted, with zeros behind it, or zeros alone where the call is refused.
-#[derive(Clone, Copy)]
-pub struct Answer {
-    pub outcome: Outcome,
-    pub bytes: [u8; 32],
+impl fmt::Display for TagError {
+    fn fmt<W: fmt::Write>(&self, f: &mut fmt::Formatter<W>) -> fmt::Result {
+        match self {
+            TagError::TooLong => write!(
+                f,
+                "the key or the message is longer than {LENGTH_LIMIT} bytes"
+            ),
+            TagError::BadTagLength => write!(f, "a tag has {SHORTEST_TAG} to {LONGEST_TAG} bytes"),
+        }
+    }
+}
+
+impl Error for TagError {}
+
+// The refusal's number.
+impl From<TagError> for u32 {
+    ghost from_gives = { λ e n. n ≡ refusal_of e };
+
+    fn from(e: TagError) -> u32 {
+        match e {
+            TagError::TooLong => 1,
+            TagError::BadTagLength => 26,
+        }
+    }
 }
 
 // The shortest and the longest tag, in bytes.
@@ -32,32 +52,20 @@ pub const LONGEST_TAG: usize = 32;
 
 // The tag of the message under the key, of as many bytes as are wanted, or the refusal of a message or a key that is too long, or then of
 // the length wanted.
-pub fn hmac(key: &[u8], message: &[u8], wanted: usize) -> Answer
-    ensures { Tags key.now message.now wanted result }
+pub fn hmac(key: &[u8], message: &[u8], wanted: usize) -> Result<[u8; 32], TagError>
+    ensures { result ≡ tag_under key.now message.now wanted }
 {
     if LENGTH_LIMIT < key.len() {
-        return refused(Outcome::TooLong); // 1, by the key
+        return Err(TagError::TooLong); // 1, by the key
     }
     if LENGTH_LIMIT < message.len() {
-        return refused(Outcome::TooLong); // 1, by the message
+        return Err(TagError::TooLong); // 1, by the message
     }
     if wanted < SHORTEST_TAG {
-        return refused(Outcome::BadTagLength); // 26, too few
+        return Err(TagError::BadTagLength); // 26, too few
     }
     if LONGEST_TAG < wanted {
-        return refused(Outcome::BadTagLength); // 26, too many
+        return Err(TagError::BadTagLength); // 26, too many
     }
-    Answer {
-        outcome: Outcome::Done,
-        bytes: tag(key, message, wanted),
-    }
-}
-
-fn refused(outcome: Outcome) -> Answer
-    ensures { (result.outcome ≡ outcome) × (result.bytes ≡ replicate 32 0) }
-{
-    Answer {
-        outcome,
-        bytes: [0; 32],
-    }
+    Ok(tag(key, message, wanted))
 }

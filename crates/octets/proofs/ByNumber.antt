@@ -1,30 +1,13 @@
 -- Bytes by their number: as many bytes are the same exactly if their numbers are (`same_number`), and zero exactly if their number is
 -- (`zero_number`). Numbers are the same, or zero, all of them, exactly if no bit of what was met is set (`none_differing`, `none_met`).
-use mathlib.Core.Path.{◌≡◌, refl, sym, ap, ap₂, ◌∙◌}
-use mathlib.Core.Bool.{◌&&◌}
+use Rattle.std.proofs.Common.{◌≡◌, refl, sym, ap, ap₂, ◌∙◌, ◌&&◌, List, [], ◌∷◌, ℕ, zero, suc, ◌+◌, ◌*◌, ◌≤◌, ◌<◌, arith, eq-eqb, ne_eqb, bit_or, bit_xor, eqb, length, get_or, take, drop, get_or-drop}
 use mathlib.Core.Logic.{by_cases}
-use mathlib.Core.List.{List, [], ◌∷◌}
-use Prim.Native.Nat.{ℕ, zero, suc, ◌+◌, ◌*◌, ◌≤◌, ◌<◌}
 use native.Mathlib.Decide.{ℕ_discrete}
-use native.Mathlib.Omega.{arith}
-use borrow.Author.Tests.{eq-eqb, ne_eqb}
-use lib.Bits.{bit_or, bit_xor, and_le_l, and_le_r, or_add_and, xor_add_and, xor_self}
-use lib.Dec.{eqb}
-use lib.ListN.{length, get_or, take, drop}
-use lib.Seq.{get_or-drop}
+use lib.Bits.{and_le_l, and_le_r, xor_add_and, xor_self}
+use Rattle.std.proofs.lemmas.Nat.{le_or_l}
 use Rattle.scheme.specs.Bytes.{num, part, all_zero, same_bytes}
 use Rattle.scheme.proofs.Tests.{same_eqb}
-use Rattle.scheme.proofs.Numbers.{num_part, num_four}
 use Rattle.octets.proofs.Parts.{part_length, zero_next, same_parts}
-
--- eight bytes are two numbers of four
-pub two_fours : (xs : List ℕ) (a : ℕ) → a + 8 ≤ length xs → num (part xs a 8) ≡ num (part xs a 4) + num (part xs (a + 4) 4) * 4294967296
-two_fours xs a h =
-    let e₀ = num_part xs a (a + 1) 7 (omega arith) (omega arith) in
-    let e₁ = num_part xs (a + 1) (a + 2) 6 (omega arith) (omega arith) in
-    let e₂ = num_part xs (a + 2) (a + 3) 5 (omega arith) (omega arith) in
-    let e₃ = num_part xs (a + 3) (a + 4) 4 (omega arith) (omega arith) in
-    omega (arith, e₀, e₁, e₂, e₃, num_four xs a (omega arith))
 
 -- ---- the number of bytes
 
@@ -56,7 +39,7 @@ same_number (x ∷ xs) (y ∷ ys) e bx by =
 -- ---- the bits of numbers
 
 or_none : (a b : ℕ) → bit_or a b ≡ 0 → a ≡ 0
-or_none a b e = omega (arith, e, or_add_and a b, and_le_l a b, and_le_r a b)
+or_none a b e = omega (arith, e, le_or_l a b)
 
 xor_none : (a b : ℕ) → bit_xor a b ≡ 0 → a ≡ b
 xor_none a b e = omega (arith, e, xor_add_and a b, and_le_l a b, and_le_r a b)

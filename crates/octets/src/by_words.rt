@@ -13,10 +13,8 @@ pub fn zero_words(bytes: &[u8], count: usize) -> bool
     ensures { result ≡ all_zero (take (8 * count) bytes.now) }
 {
     let mut met = 0;
-    let mut i = 0;
-    while i < count {
-        met = met | read_u64(bytes, WORD_LENGTH * i);
-        i += 1;
+    for i in 0..count {
+        met |= read_u64(bytes, WORD_LENGTH * i);
     }
     met == 0
 }
@@ -26,6 +24,7 @@ pub fn same_words(a: &[u8], b: &[u8], count: usize) -> bool
     requires { (8 * count ≤ length a.now) × (8 * count ≤ length b.now) }
     ensures { result ≡ same_bytes (take (8 * count) a.now) (take (8 * count) b.now) }
 {
+    // Counted by hand: a `for` wants `count / TOGETHER` at once, which takes a tenth of the time that 32 bytes take.
     let mut k = 0;
     while TOGETHER <= count - k {
         if !same_together(a, b, WORD_LENGTH * k, TOGETHER) {
@@ -42,11 +41,9 @@ fn same_together(a: &[u8], b: &[u8], from: usize, count: usize) -> bool
     ensures { result ≡ same_bytes (part a.now from (8 * count)) (part b.now from (8 * count)) }
 {
     let mut differing = 0;
-    let mut j = 0;
-    while j < count {
+    for j in 0..count {
         let at = from + WORD_LENGTH * j;
-        differing = differing | (read_u64(a, at) ^ read_u64(b, at));
-        j += 1;
+        differing |= read_u64(a, at) ^ read_u64(b, at);
     }
     differing == 0
 }

@@ -12,11 +12,7 @@ pub fn write(memory: &mut [u8], at: usize, bytes: &[u8])
     requires { at + length bytes.now ≤ length memory.old }
     ensures { memory.new ≡ splice memory.old at bytes.now }
 {
-    let mut i = 0;
-    while i < bytes.len() {
-        memory[at + i] = bytes[i];
-        i += 1;
-    }
+    memory[at..at + bytes.len()].copy_from_slice(bytes);
 }
 
 // Zeros written at a place, and the rest of the memory as it was.
@@ -24,24 +20,19 @@ pub fn clear(memory: &mut [u8], at: usize, n: usize)
     requires { at + n ≤ length memory.old }
     ensures { memory.new ≡ splice memory.old at (replicate n 0) }
 {
-    let mut i = 0;
-    while i < n {
-        memory[at + i] = 0;
-        i += 1;
-    }
+    memory[at..at + n].fill(0);
 }
 
 // All bytes are zero.
 pub fn all_zero(bytes: &[u8]) -> bool
     ensures { result ≡ all_zero bytes.now }
 {
-    let n = bytes.len();
-    let words = n / WORD_LENGTH;
+    let words = bytes.len() / WORD_LENGTH;
     if !zero_words(bytes, words) {
         return false;
     }
     let k = WORD_LENGTH * words;
-    all_zero_by_bytes(&bytes[k..n])
+    all_zero_by_bytes(&bytes[k..])
 }
 
 // Both are equally long and have the same bytes.
@@ -57,19 +48,18 @@ pub fn same(a: &[u8], b: &[u8]) -> bool
         return false;
     }
     let k = WORD_LENGTH * words;
-    same_by_bytes(&a[k..n], &b[k..n])
+    same_by_bytes(&a[k..], &b[k..])
 }
 
 // Some number is over the limit.
 pub fn any_over(limit: u32, xs: &[u32]) -> bool
     ensures { result ≡ any_over limit xs.now }
 {
-    let mut i = 0;
-    while i < xs.len() {
-        if limit < xs[i] {
+    // A loop: the library's `any` takes half as long again.
+    for x in xs {
+        if limit < *x {
             return true;
         }
-        i += 1;
     }
     false
 }

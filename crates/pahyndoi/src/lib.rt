@@ -1,14 +1,11 @@
 // What other languages call: built as a static library, declared in include/pahyndoi.h.
 #![tactic(auto)]
 
-ghost use Rattle.std.specs.Prelude.{◌≡◌};
 ghost use Rattle.pahyndoi.specs.Hash.{Hashed, Tagged};
 ghost use Rattle.packed.specs.Surface.{Opened, Appended, Closed, Restarted};
 ghost use Rattle.audited.specs.Audited.{Audited};
 ghost use Rattle.audited.specs.LookedUp.{LookedUp, Located};
 ghost use Rattle.packed.specs.Plans.{RatchetPlanned};
-ghost use Rattle.sha256.specs.Call as Hash;
-ghost use Rattle.hmac.specs.Call as Tag;
 
 use audited::auditing::audit_packed;
 use audited::looking::{data_at_packed, item_at_packed};
@@ -21,11 +18,16 @@ use scheme::State;
 pub extern "C" fn pahyndoi_sha256(message: &[u8], digest: &mut [u8; 32]) -> u32
     ensures { Hashed message.now result digest.new }
 {
-    let answer = sha256::sha256(message);
-    let bytes = answer.bytes;
-    let outcome = answer.outcome;
-    *digest = bytes;
-    number(outcome)
+    match sha256::sha256(message) {
+        Ok(bytes) => {
+            *digest = bytes;
+            0
+        }
+        Err(refusal) => {
+            *digest = [0; 32];
+            u32::from(refusal)
+        }
+    }
 }
 
 // The tag of the message under the key, of as many bytes as are wanted with zeros behind them, and 0; or 32 zeros and refusal 1 where key or
@@ -39,31 +41,15 @@ pub extern "C" fn pahyndoi_hmac_sha256(
 ) -> u32
     ensures { Tagged key.now message.now wanted result tag.new }
 {
-    let answer = hmac::hmac(key, message, wanted);
-    let bytes = answer.bytes;
-    let outcome = answer.outcome;
-    *tag = bytes;
-    tag_number(outcome)
-}
-
-// The number of the hash's refusal, 0 with none.
-fn number(outcome: sha256::Outcome) -> u32
-    ensures { result ≡ Hash.refusal_of outcome }
-{
-    match outcome {
-        sha256::Outcome::Done => 0,
-        sha256::Outcome::TooLong => 1,
-    }
-}
-
-// The number of the tag's refusal, 0 with none.
-fn tag_number(outcome: hmac::Outcome) -> u32
-    ensures { result ≡ Tag.refusal_of outcome }
-{
-    match outcome {
-        hmac::Outcome::Done => 0,
-        hmac::Outcome::TooLong => 1,
-        hmac::Outcome::BadTagLength => 26,
+    match hmac::hmac(key, message, wanted) {
+        Ok(bytes) => {
+            *tag = bytes;
+            0
+        }
+        Err(refusal) => {
+            *tag = [0; 32];
+            u32::from(refusal)
+        }
     }
 }
 

@@ -1,10 +1,11 @@
 -- Laws of a message that is hashed block by block, part after part. What is appended to a message goes behind the bytes after its
 -- whole blocks, its `rest` (`over_append`, `held_append`), and so do the parts of `update` and the padding of `finish`. Assumes nothing.
 use Rattle.std.proofs.Common.{◌≡◌, ℕ, zero, suc, ◌+◌, ◌-◌, ◌*◌, ◌/◌, ◌%◌, ◌^◌, ◌<◌, ◌≤◌, List, [], ◌∷◌, ◌++◌, length, take, drop, set, replicate, sym, refl, ap, ◌∙◌, subst, ap₂, append_assoc, append-nil, le_refl, mod-lt, pow-suc, mul-add, arith, lit<, length-append, length-drop, length-set, take-append-drop, drop_of_length-le, length-take-le, take_all, drop-drop, take_at, drop_at}
-use native.Mathlib.Nat.{one-le-pow}
+use native.Mathlib.Nat.{one-le-pow, div-div-eq-div-mul, pow-succ'}
 use lib.Arith.{digits_div, digits_mod, mod-mul}
 use lib.ListN.{length-replicate, replicate-append-replicate}
 use lib.Seq.{drop-append-le, take-append_seam, drop-append-add, set-append_left, set-append_seam}
+use Rattle.std.specs.Int.{byte_at, bytes_high_first}
 use Rattle.compression.specs.Fips.{big_endian, hashed, pad, sha256, zero_bytes, digest, H₀}
 use Rattle.compression.specs.declared.words.Words.{Words}
 use Rattle.compression.proofs.Hashed.{hashed_append, hashed_add}
@@ -26,6 +27,20 @@ byte_digits (suc w) n =
 
 pub bytes_mod : (w a b : ℕ) → a % 256 ^ w ≡ b % 256 ^ w → big_endian w a ≡ big_endian w b
 bytes_mod w a b e = sym (byte_digits w a) ∙ ap (big_endian w) e ∙ byte_digits w b
+
+-- std's bytes of a number are the standard's
+byte_above : (k n : ℕ) → byte_at k (n / 256) ≡ byte_at (suc k) n
+byte_above zero n = refl
+byte_above (suc k) n = ap (λ (q : ℕ). q % 256) (div-div-eq-div-mul n 256 (256 ^ suc k) ∙ ap (λ (d : ℕ). n / d) (sym (pow-succ' 256 (suc k))))
+
+first_byte : (k n : ℕ) → big_endian (suc k) n ≡ byte_at k n ∷ big_endian k n
+first_byte zero n = refl
+first_byte (suc k) n =
+    ap (λ (l : List ℕ). l ++ (n % 256 ∷ [])) (first_byte k (n / 256)) ∙ ap (λ (b : ℕ). b ∷ big_endian (suc k) n) (byte_above k n)
+
+pub be_bytes : (w n : ℕ) → bytes_high_first w n ≡ big_endian w n
+be_bytes zero n = refl
+be_bytes (suc k) n = ap (λ (l : List ℕ). byte_at k n ∷ l) (be_bytes k n) ∙ sym (first_byte k n)
 
 -- the hash value after every whole block of m
 abbrev pub over : Words → List ℕ → Words

@@ -1,9 +1,7 @@
--- What the public call answers: the digest, or refusal 1 and 32 zeros.
-use Rattle.std.specs.Prelude.{◌≡◌, ℕ, Bool, true, false, List, length, replicate, nat_le}
+-- What the public call answers: the digest, or its one refusal.
+use Rattle.std.specs.Prelude.{ℕ, Bool, true, false, List, length, replicate, nat_le, Result, Ok, Err, if◌then◌else◌}
 use Rattle.compression.specs.Fips.{sha256}
-use Rattle.sha256.specs.declared.Answer.{Answer}
-use Rattle.sha256.specs.declared.Outcome.{Outcome}
-use Rattle.sha256.specs.declared.Outcome.TheVariants.{Done, TooLong}
+use Rattle.sha256.specs.declared.TooLong.{TooLong}
 
 -- the longest message or key that is hashed, in bytes
 abbrev pub length_limit : ℕ
@@ -12,12 +10,15 @@ length_limit = 1048576
 abbrev pub within : List ℕ → Bool
 within m = nat_le (length m) length_limit
 
--- the number of a refusal, 0 with none
-abbrev pub refusal_of : Outcome → ℕ
-refusal_of Done = 0
-refusal_of TooLong = 1
+-- the number of the refusal
+abbrev pub refusal_of : TooLong → ℕ
+refusal_of e = 1
 
--- what is answered if all is within the limit: nothing refused, and the bytes; else refusal 1 and zeros
+-- the digest, if all is within the limit
+abbrev pub digest_of : List ℕ → Result (List ℕ) TooLong
+digest_of m = if within m then Ok (sha256 m) else Err (record {})
+
+-- what is given to C if all is within the limit: 0 and the bytes; else refusal 1 and zeros
 abbrev pub refusal_if : Bool → ℕ
 refusal_if true = 0
 refusal_if false = 1
@@ -25,7 +26,3 @@ refusal_if false = 1
 abbrev pub bytes_if : Bool → List ℕ → List ℕ
 bytes_if true bytes = bytes
 bytes_if false bytes = replicate 32 0
-
-pub record Hashes (m : List ℕ) (r : Answer) : Type 0 where
-  pub refusal : refusal_of r.outcome ≡ refusal_if (within m)
-  pub bytes : r.bytes ≡ bytes_if (within m) (sha256 m)

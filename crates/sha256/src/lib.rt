@@ -1,41 +1,45 @@
 // SHA-256 (FIPS 180-4): a hash state that takes a message part after part, and a call that is handed it whole.
 #![tactic(auto)]
 
-ghost use Rattle.sha256.specs.Call.{Hashes};
+ghost use Rattle.std.specs.Prelude.{◌≡◌};
+ghost use Rattle.sha256.specs.Call.{digest_of, refusal_of};
 
 pub mod state;
 
 use state::Sha256;
+use std::error::Error;
+use std::fmt;
 
-// How a call went: done, or refused because the message is too long.
-#[derive(Clone, Copy)]
-pub enum Outcome {
-    Done,
-    TooLong,
+// Why a call is refused: the message is too long.
+#[derive(Clone, Copy, Debug, PartialEq, Eq)]
+pub struct TooLong;
+
+impl fmt::Display for TooLong {
+    fn fmt<W: fmt::Write>(&self, f: &mut fmt::Formatter<W>) -> fmt::Result {
+        write!(f, "the message is longer than {LENGTH_LIMIT} bytes")
+    }
 }
 
-// The outcome, and the 32 bytes of the digest, zeros where the call is refused.
-#[derive(Clone, Copy)]
-pub struct Answer {
-    pub outcome: Outcome,
-    pub bytes: [u8; 32],
+impl Error for TooLong {}
+
+// The refusal's number.
+impl From<TooLong> for u32 {
+    ghost from_gives = { λ e n. n ≡ refusal_of e };
+
+    fn from(_e: TooLong) -> u32 {
+        1
+    }
 }
 
 // The longest message or key that is hashed, in bytes.
 pub const LENGTH_LIMIT: usize = 1048576;
 
 // The digest of the message, or the refusal of one that is too long.
-pub fn sha256(message: &[u8]) -> Answer
-    ensures { Hashes message.now result }
+pub fn sha256(message: &[u8]) -> Result<[u8; 32], TooLong>
+    ensures { result ≡ digest_of message.now }
 {
     if LENGTH_LIMIT < message.len() {
-        return Answer {
-            outcome: Outcome::TooLong,
-            bytes: [0; 32],
-        };
+        return Err(TooLong);
     }
-    Answer {
-        outcome: Outcome::Done,
-        bytes: Sha256::new().finish_part(message),
-    }
+    Ok(Sha256::new().finish_part(message))
 }

@@ -6,7 +6,7 @@ ghost use Rattle.sha256.specs.State.{Held, Stands};
 use compression::blocks;
 use compression::words::Words;
 
-// The words after the whole blocks, the bytes after them with zeros behind them, and the length so far.
+// The words after the whole blocks, the bytes after them with zeros behind them, and the length so far. No heap: the bytes stand in an array.
 #[derive(Clone, Copy)]
 pub struct Sha256 {
     pub words: Words,
@@ -56,9 +56,7 @@ impl Sha256 {
     pub fn of_block(block: [u8; 64]) -> Self
         ensures { Stands result block }
     {
-        let start = Self::new();
-        let words = start.words;
-        whole(words, &block, 64)
+        whole(Self::new().words, &block, 64)
     }
 
     // The state that stands for a message of one block followed by the part.
@@ -81,14 +79,12 @@ impl Sha256 {
         if part.len() < free {
             return self.held(part);
         }
-        let length = std::num::wrapping_add_u64(self.length, part.len() as u64);
-        let words = self.words;
+        let length = self.length.wrapping_add(part.len() as u64);
         if n == 0 {
-            return whole(words, part, length);
+            return whole(self.words, part, length);
         }
-        let block = self.block;
-        let full = put(block, n, &part[..free]);
-        whole(blocks(words, &full), &part[free..], length)
+        let full = put(self.block, n, &part[..free]);
+        whole(blocks(self.words, &full), &part[free..], length)
     }
 
     // The same of a part that leaves the block open: nothing is hashed, so it is short enough to be compiled into its callers.
@@ -97,13 +93,10 @@ impl Sha256 {
         ensures { (m : List ℕ) → Stands self m → Stands result (m ++ part.now) }
     {
         let n = (self.length % 64) as usize;
-        let length = std::num::wrapping_add_u64(self.length, part.len() as u64);
-        let words = self.words;
-        let block = self.block;
         Self {
-            words,
-            block: put(block, n, part),
-            length,
+            words: self.words,
+            block: put(self.block, n, part),
+            length: self.length.wrapping_add(part.len() as u64),
         }
     }
 
@@ -112,28 +105,24 @@ impl Sha256 {
         ensures { (m : List ℕ) → Stands self m → result ≡ Fips.sha256 m }
     {
         let n = (self.length % 64) as usize;
-        let count = self.length;
-        let words = self.words;
-        let block = self.block;
         if n < 56 {
-            let mut end = with_length(block, count);
+            let mut end = with_length(self.block, self.length);
             end[n] = 128;
-            return digest(blocks(words, &end));
+            return digest(blocks(self.words, &end));
         }
-        let mut last = block;
+        let mut last = self.block;
         last[n] = 128;
-        let end = with_length([0; 64], count);
-        digest(blocks(blocks(words, &last), &end))
+        let end = with_length([0; 64], self.length);
+        digest(blocks(blocks(self.words, &last), &end))
     }
 
     // From the state that stands for a message m of whole blocks, the digest of m followed by the part.
     pub fn finish_part(self, part: &[u8]) -> [u8; 32]
         ensures { (m : List ℕ) → Stands self m → length m % 64 ≡ 0 → result ≡ Fips.sha256 (m ++ part.now) }
     {
-        let count = std::num::wrapping_add_u64(self.length, part.len() as u64);
-        let words = self.words;
+        let count = self.length.wrapping_add(part.len() as u64);
         let at = part.len() / 64 * 64;
-        ended(blocks(words, part), &part[at..], count)
+        ended(blocks(self.words, part), &part[at..], count)
     }
 
     // From the state that stands for a message m of one block, the digest of m followed by the part: what HMAC ends with, in one
@@ -141,10 +130,9 @@ impl Sha256 {
     pub fn finish_with(self, part: [u8; 32]) -> [u8; 32]
         ensures { (m : List ℕ) → Stands self m → length m ≡ 64 → result ≡ Fips.sha256 (m ++ part) }
     {
-        let words = self.words;
         let mut end = with_length(put([0; 64], 0, &part), 96);
         end[32] = 128;
-        digest(blocks(words, &end))
+        digest(blocks(self.words, &end))
     }
 }
 
@@ -180,18 +168,12 @@ fn ended(words: Words, rest: &[u8], count: u64) -> [u8; 32]
     digest(blocks(blocks(words, &last), &end))
 }
 
-// The block with the length in bits as its last 8 bytes: written one by one, they become one store.
+// The block with the length in bits as its last 8 bytes.
 fn with_length(block: [u8; 64], count: u64) -> [u8; 64]
     ensures { result ≡ take 56 block ++ Fips.big_endian 8 (8 * count) ++ drop 64 block }
 {
-    let mut n = count % 0x2000000000000000 * 8;
     let mut b = block;
-    let mut i = 64;
-    while 56 < i {
-        i -= 1;
-        b[i] = (n % 256) as u8;
-        n = n / 256;
-    }
+    b[56..].copy_from_slice(&count.wrapping_mul(8).to_be_bytes());
     b
 }
 
@@ -211,11 +193,7 @@ fn put(block: [u8; 64], at: usize, part: &[u8]) -> [u8; 64]
     ensures { result ≡ take at block ++ part.now ++ drop (at + length part.now) block }
 {
     let mut b = block;
-    let mut i = 0;
-    while i < part.len() {
-        b[at + i] = part[i];
-        i += 1;
-    }
+    b[at..at + part.len()].copy_from_slice(part);
     b
 }
 
@@ -232,28 +210,12 @@ fn digest(s: Words) -> [u8; 32]
     put_word(d, 28, s.h)
 }
 
-// The bytes with a word's written at a place: copied from an array of four, they become one store.
+// The bytes with a word's written at a place.
 fn put_word(d: [u8; 32], at: usize, x: u32) -> [u8; 32]
     requires { at + 4 ≤ 32 }
     ensures { result ≡ take at d ++ Fips.big_endian 4 x ++ drop (at + 4) d }
 {
-    let word = word_bytes(x);
     let mut b = d;
-    let mut i = 0;
-    while i < 4 {
-        b[at + i] = word[i];
-        i += 1;
-    }
+    b[at..at + 4].copy_from_slice(&x.to_be_bytes());
     b
-}
-
-fn word_bytes(x: u32) -> [u8; 4]
-    ensures { result ≡ Fips.big_endian 4 x }
-{
-    [
-        (x / 256 / 256 / 256 % 256) as u8,
-        (x / 256 / 256 % 256) as u8,
-        (x / 256 % 256) as u8,
-        (x % 256) as u8,
-    ]
 }

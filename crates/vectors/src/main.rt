@@ -24,50 +24,48 @@ fn main(rt: HostRuntime) -> io::Result<()> {
 }
 
 fn nist(out: &mut impl Write) -> io::Result<()> {
-    hash(out, b"abc", b"abc")?;
+    hash(out, "abc", b"abc")?;
     hash(
         out,
-        b"two-blocks",
+        "two-blocks",
         b"abcdbcdecdefdefgefghfghighijhijkijkljklmklmnlmnomnopnopq",
     )?;
-    hash(out, b"byte-bd", &[0xbd])?;
-    hash(out, b"four-bytes", &[0xc9, 0x8c, 0x8e, 0x55])?;
-    hash(out, b"zeros-55", &[0; 55])?;
-    hash(out, b"zeros-56", &[0; 56])?;
-    hash(out, b"zeros-57", &[0; 57])?;
-    hash(out, b"zeros-64", &[0; 64])?;
-    hash(out, b"zeros-1000", &[0; 1000])?;
-    hash(out, b"A-1000", &[0x41; 1000])?;
-    hash(out, b"U-1005", &[0x55; 1005])?;
-    million(out, b"million-a", [b'a'; 1000])?;
-    million(out, b"million-zeros", [0; 1000])
+    hash(out, "byte-bd", &[0xbd])?;
+    hash(out, "four-bytes", &[0xc9, 0x8c, 0x8e, 0x55])?;
+    hash(out, "zeros-55", &[0; 55])?;
+    hash(out, "zeros-56", &[0; 56])?;
+    hash(out, "zeros-57", &[0; 57])?;
+    hash(out, "zeros-64", &[0; 64])?;
+    hash(out, "zeros-1000", &[0; 1000])?;
+    hash(out, "A-1000", &[0x41; 1000])?;
+    hash(out, "U-1005", &[0x55; 1005])?;
+    million(out, "million-a", [b'a'; 1000])?;
+    million(out, "million-zeros", [0; 1000])
 }
 
 // A thousand bytes a thousand times, part after part: no proof carries an array of a million.
-fn million(out: &mut impl Write, name: &[u8], part: [u8; 1000]) -> io::Result<()> {
+fn million(out: &mut impl Write, name: &str, part: [u8; 1000]) -> io::Result<()> {
     let mut state = Sha256::new();
-    let mut done: usize = 0;
-    while done < 1000 {
+    for _ in 0..1000 {
         state = state.update(&part);
-        done += 1;
     }
-    line(out, name, b" 0 ", state.finish())
+    line(out, name, 0, state.finish())
 }
 
 // The lengths at which padding changes its form, on the bytes 0, 1, 2, ..
 fn lengths(out: &mut impl Write) -> io::Result<()> {
-    front(out, b"length-0", 0)?;
-    front(out, b"length-55", 55)?;
-    front(out, b"length-56", 56)?;
-    front(out, b"length-63", 63)?;
-    front(out, b"length-64", 64)?;
-    front(out, b"length-65", 65)?;
-    front(out, b"length-119", 119)?;
-    front(out, b"length-120", 120)?;
-    front(out, b"length-128", 128)
+    front(out, "length-0", 0)?;
+    front(out, "length-55", 55)?;
+    front(out, "length-56", 56)?;
+    front(out, "length-63", 63)?;
+    front(out, "length-64", 64)?;
+    front(out, "length-65", 65)?;
+    front(out, "length-119", 119)?;
+    front(out, "length-120", 120)?;
+    front(out, "length-128", 128)
 }
 
-fn front(out: &mut impl Write, name: &[u8], n: usize) -> io::Result<()> {
+fn front(out: &mut impl Write, name: &str, n: usize) -> io::Result<()> {
     let bytes = counting();
     if n <= 128 {
         hash(out, name, &bytes[..n])?;
@@ -76,21 +74,21 @@ fn front(out: &mut impl Write, name: &[u8], n: usize) -> io::Result<()> {
 }
 
 fn rfc4231(out: &mut impl Write) -> io::Result<()> {
-    tag(out, b"case-1", &[0x0b; 20], b"Hi There", 32)?;
-    case2(out, b"case-2", 32)?;
-    tag(out, b"case-3", &[0xaa; 20], &[0xdd; 50], 32)?;
+    tag(out, "case-1", &[0x0b; 20], b"Hi There", 32)?;
+    case2(out, "case-2", 32)?;
+    tag(out, "case-3", &[0xaa; 20], &[0xdd; 50], 32)?;
     case4(out)?;
-    tag(out, b"case-5", &[0x0c; 20], b"Test With Truncation", 16)?;
+    tag(out, "case-5", &[0x0c; 20], b"Test With Truncation", 16)?;
     tag(
         out,
-        b"case-6",
+        "case-6",
         &[0xaa; 131],
         b"Test Using Larger Than Block-Size Key - Hash Key First",
         32,
     )?;
     tag(
         out,
-        b"case-7",
+        "case-7",
         &[0xaa; 131],
         b"This is a test using a larger than block-size key and a larger than block-size data. The key needs to be hashed before being used by the HMAC algorithm.",
         32,
@@ -99,22 +97,22 @@ fn rfc4231(out: &mut impl Write) -> io::Result<()> {
 
 fn case4(out: &mut impl Write) -> io::Result<()> {
     let bytes = counting();
-    tag(out, b"case-4", &bytes[1..26], &[0xcd; 50], 32)
+    tag(out, "case-4", &bytes[1..26], &[0xcd; 50], 32)
 }
 
 // Tags of case 2 that are cut, and lengths on both sides of 16 and of 32.
 fn tag_lengths(out: &mut impl Write) -> io::Result<()> {
-    case2(out, b"wanted-0", 0)?;
-    case2(out, b"wanted-15", 15)?;
-    case2(out, b"wanted-16", 16)?;
-    case2(out, b"wanted-17", 17)?;
-    case2(out, b"wanted-31", 31)?;
-    case2(out, b"wanted-32", 32)?;
-    case2(out, b"wanted-33", 33)?;
-    case2(out, b"wanted-48", 48)
+    case2(out, "wanted-0", 0)?;
+    case2(out, "wanted-15", 15)?;
+    case2(out, "wanted-16", 16)?;
+    case2(out, "wanted-17", 17)?;
+    case2(out, "wanted-31", 31)?;
+    case2(out, "wanted-32", 32)?;
+    case2(out, "wanted-33", 33)?;
+    case2(out, "wanted-48", 48)
 }
 
-fn case2(out: &mut impl Write, name: &[u8], wanted: usize) -> io::Result<()> {
+fn case2(out: &mut impl Write, name: &str, wanted: usize) -> io::Result<()> {
     tag(out, name, b"Jefe", b"what do ya want for nothing?", wanted)
 }
 
@@ -122,54 +120,37 @@ fn counting() -> [u8; 128]
     ensures { length result ≡ 128 }
 {
     let mut bytes = [0; 128];
-    for i in 0..128 {
-        bytes[i] = (i % 256) as u8;
+    for i in 0..128u8 {
+        bytes[usize::from(i)] = i;
     }
     bytes
 }
 
-fn hash(out: &mut impl Write, name: &[u8], message: &[u8]) -> io::Result<()> {
-    let answer = sha256::sha256(message);
-    let bytes = answer.bytes;
-    let outcome = answer.outcome;
-    match outcome {
-        sha256::Outcome::Done => line(out, name, b" 0 ", bytes),
-        sha256::Outcome::TooLong => line(out, name, b" 1 ", bytes),
+fn hash(out: &mut impl Write, name: &str, message: &[u8]) -> io::Result<()> {
+    match sha256::sha256(message) {
+        Ok(digest) => line(out, name, 0, digest),
+        Err(refusal) => line(out, name, u32::from(refusal), [0; 32]),
     }
 }
 
 fn tag(
     out: &mut impl Write,
-    name: &[u8],
+    name: &str,
     key: &[u8],
     message: &[u8],
     wanted: usize,
 ) -> io::Result<()> {
-    let answer = hmac::hmac(key, message, wanted);
-    let bytes = answer.bytes;
-    let outcome = answer.outcome;
-    match outcome {
-        hmac::Outcome::Done => line(out, name, b" 0 ", bytes),
-        hmac::Outcome::TooLong => line(out, name, b" 1 ", bytes),
-        hmac::Outcome::BadTagLength => line(out, name, b" 26 ", bytes),
+    match hmac::hmac(key, message, wanted) {
+        Ok(tag) => line(out, name, 0, tag),
+        Err(refusal) => line(out, name, u32::from(refusal), [0; 32]),
     }
 }
 
-fn line(out: &mut impl Write, name: &[u8], refusal: &[u8], bytes: [u8; 32]) -> io::Result<()> {
-    out.write_all(name)?;
-    out.write_all(refusal)?;
-    for i in 0..32 {
-        hex(out, bytes[i])?;
+// The name, the refusal's number, 0 with none, and the bytes, zeros where the call is refused.
+fn line(out: &mut impl Write, name: &str, refusal: u32, bytes: [u8; 32]) -> io::Result<()> {
+    write!(out, "{name} {refusal} ")?;
+    for b in bytes {
+        write!(out, "{b:02x}")?;
     }
-    out.write_all(b"\n")
-}
-
-fn hex(out: &mut impl Write, x: u8) -> io::Result<()> {
-    let pair = [digit(x / 16), digit(x % 16)];
-    out.write_all(&pair)
-}
-
-fn digit(x: u8) -> u8 {
-    let n = x % 16;
-    if n < 10 { n + b'0' } else { n - 10 + b'a' }
+    writeln!(out)
 }

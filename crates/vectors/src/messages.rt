@@ -13,14 +13,14 @@ const CHUNK: [u8; 32] = *b" !\"#$%&'()*+,-./0123456789:;<=>?";
 pub fn device(out: &mut impl Write) -> io::Result<()> {
     by_hand(
         out,
-        b"device",
+        "device",
         b"device 7\x02\x01\0\0\0\0\x09\0\0\0\0\0\0\0\0\0\0\x0007:00 164",
         b"device 7\x04\x01\0\0\0\x02\0\0\0",
         b"device 7\x03\0\0\0\0\x01\0\0\0",
     )?;
     sealed(
         out,
-        b"device",
+        "device",
         *b"\x01device 7\x01\x01\0\0\0\x02\0\0\0 !\"#$%&'()*+,-./0123456789:;<=>?",
     )
 }
@@ -29,37 +29,36 @@ pub fn device(out: &mut impl Write) -> io::Result<()> {
 pub fn standby(out: &mut impl Write) -> io::Result<()> {
     by_hand(
         out,
-        b"standby",
+        "standby",
         b"device 8\x02\x01\0\0\0\0\x09\0\0\0\0\0\0\0\0\0\0\x0007:00 164",
         b"device 8\x04\x01\0\0\0\x02\0\0\0",
         b"device 8\x03\0\0\0\0\x01\0\0\0",
     )?;
     sealed(
         out,
-        b"standby",
+        "standby",
         *b"\x01device 8\x01\x01\0\0\0\x02\0\0\0 !\"#$%&'()*+,-./0123456789:;<=>?",
     )
 }
 
 fn by_hand(
     out: &mut impl Write,
-    owner: &[u8],
+    owner: &str,
     entry: &[u8],
     ratchet: &[u8],
     filler: &[u8],
 ) -> io::Result<()> {
     let chunk = CHUNK;
-    out.write_all(owner)?;
-    tag(out, b"-entry", &chunk, entry, 32)?;
-    out.write_all(owner)?;
-    tag(out, b"-next-key", &chunk, ratchet, 32)?;
-    let next = hmac::hmac(&chunk, ratchet, 32);
-    let key = next.bytes;
-    out.write_all(owner)?;
-    tag(out, b"-filler", &key, filler, 32)
+    write!(out, "{owner}")?;
+    tag(out, "-entry", &chunk, entry, 32)?;
+    write!(out, "{owner}")?;
+    tag(out, "-next-key", &chunk, ratchet, 32)?;
+    let key = hmac::hmac(&chunk, ratchet, 32).unwrap_or([0; 32]);
+    write!(out, "{owner}")?;
+    tag(out, "-filler", &key, filler, 32)
 }
 
-fn sealed(out: &mut impl Write, owner: &[u8], unused: [u8; 50]) -> io::Result<()> {
+fn sealed(out: &mut impl Write, owner: &str, unused: [u8; 50]) -> io::Result<()> {
     let mut store = unused;
     let mut logs = [0; 8192];
     let mut seal = [0; 91];
@@ -70,22 +69,20 @@ fn sealed(out: &mut impl Write, owner: &[u8], unused: [u8; 50]) -> io::Result<()
     let second = appended.state;
     sealer::close(second, &store, &logs, &mut seal);
     let key = second.key;
-    made(out, owner, b"-entry-sealed", tag_at(&seal, 18))?;
-    made(out, owner, b"-next-key-held", key)?;
-    made(out, owner, b"-filler-sealed", tag_at(&seal, 59))
+    made(out, owner, "-entry-sealed", tag_at(&seal, 18))?;
+    made(out, owner, "-next-key-held", key)?;
+    made(out, owner, "-filler-sealed", tag_at(&seal, 59))
 }
 
-fn made(out: &mut impl Write, owner: &[u8], name: &[u8], bytes: [u8; 32]) -> io::Result<()> {
-    out.write_all(owner)?;
-    line(out, name, b" 0 ", bytes)
+fn made(out: &mut impl Write, owner: &str, name: &str, bytes: [u8; 32]) -> io::Result<()> {
+    write!(out, "{owner}")?;
+    line(out, name, 0, bytes)
 }
 
 fn tag_at(seal: &[u8; 91], at: usize) -> [u8; 32]
     requires { at + 32 ≤ 91 }
 {
     let mut bytes = [0; 32];
-    for i in 0..32 {
-        bytes[i] = seal[at + i];
-    }
+    bytes.copy_from_slice(&seal[at..at + 32]);
     bytes
 }

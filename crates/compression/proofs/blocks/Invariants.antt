@@ -1,11 +1,7 @@
--- `compression::blocks` meets its contract. The loop's invariant: i blocks are hashed. The table of
--- constants is the standard's, compared whole.
-use Rattle.std.proofs.Common.{◌≡◌, ◌-◌, ◌/◌, ◌≤◌, length}
+-- `compression::blocks` meets its contract. The loop's invariant: so many blocks are hashed.
+use Rattle.std.proofs.Common.{◌≡◌}
 use Rattle.compression.specs.Fips.{hashed}
 use Rattle.compression.proofs.blocks.Given as goal
 
-abbrev pub invariant-loop-i : goal.invariant-loop-i
-invariant-loop-i l = (l.v ≡ hashed l.initial.v l.part l.i) × (l.i ≤ length l.part / 64)
-
-abbrev pub decreases-loop-i : goal.decreases-loop-i
-decreases-loop-i l = length l.part / 64 - l.i
+abbrev pub invariant-loop-b : goal.invariant-loop-b
+invariant-loop-b l = l.v ≡ hashed l.initial.v l.part l.b-index

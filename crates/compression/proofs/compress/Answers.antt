@@ -7,4 +7,4 @@ use Rattle.compression.proofs.compress.Goals as goal
 pub returns : goal.returns
 returns c =
     let reached = rounds_begun _ _ _ _ c.load-w.ensures c.first.ensures in
-    ended _ c.requires.1 refl (c.others-v.ensures _ _ reached) c.added.ensures
+    ended _ c.requires refl (c.others-v.ensures _ _ reached) c.added.ensures

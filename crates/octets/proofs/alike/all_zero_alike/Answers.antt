@@ -1,5 +1,5 @@
 -- `octets::alike::all_zero_alike` meets its contract: both zero tests say whether the bytes are zero.
-use mathlib.Core.Path.{sym, ◌∙◌}
+use Rattle.std.proofs.Common.{sym, ◌∙◌}
 use Rattle.scheme.proofs.Tests.{same_beq}
 use Rattle.octets.proofs.alike.all_zero_alike.Goals as goal
 

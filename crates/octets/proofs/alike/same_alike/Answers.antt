@@ -1,5 +1,5 @@
 -- `octets::alike::same_alike` meets its contract: both comparisons say whether the bytes are the same.
-use mathlib.Core.Path.{sym, ◌∙◌}
+use Rattle.std.proofs.Common.{sym, ◌∙◌}
 use Rattle.scheme.proofs.Tests.{same_beq}
 use Rattle.octets.proofs.alike.same_alike.Goals as goal
 

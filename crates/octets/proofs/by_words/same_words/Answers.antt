@@ -1,16 +1,9 @@
-use mathlib.Core.Path.{◌≡◌, sym, ap, ◌∙◌}
-use mathlib.Core.Bool.{◌&&◌}
-use mathlib.Core.List.{List}
-use Prim.Native.Nat.{ℕ, ◌+◌, ◌*◌, ◌-◌, ◌≤◌}
-use native.Mathlib.Nat.{sub-zero}
-use native.Mathlib.Omega.{arith}
-use lib.ListN.{length, take}
+use Rattle.std.proofs.Common.{◌≡◌, ◌+◌, ◌*◌, ◌-◌, ◌≤◌, ◌&&◌, ℕ, List, length, take, sym, ap, ◌∙◌, arith, rules}
+use Rattle.std.proofs.Math.Nat.{sub-zero}
 use Rattle.scheme.specs.Bytes.{same_bytes, part}
 use Rattle.octets.proofs.Parts.{so_many, these_same, same_parts}
-use borrow.Author.Rules.{rules}
 use Rattle.octets.proofs.by_words.same_words.Goals as goal
 
--- ?? used at [('returns-then-not-same_together', 'Then-not-same_together'), ('loop-k-preserved', 'Else-not-same_together')]
 -- the words from k on: the first w, and the rest
 together : (a b : List ℕ) (count k w : ℕ) → k + w ≤ count → 8 * count ≤ length a → 8 * count ≤ length b
     → same_bytes (part a (8 * k) (8 * (count - k))) (part b (8 * k) (8 * (count - k)))

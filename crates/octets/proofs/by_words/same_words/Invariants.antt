@@ -1,7 +1,5 @@
 -- `octets::by_words::same_words` meets its contract. The loop's invariant: the words are the same exactly if those from k on are.
-use mathlib.Core.Path.{◌≡◌}
-use Prim.Native.Nat.{◌*◌, ◌-◌, ◌≤◌}
-use lib.ListN.{take}
+use Rattle.std.proofs.Common.{◌≡◌, ◌*◌, ◌-◌, ◌≤◌, take}
 use Rattle.scheme.specs.Bytes.{same_bytes, part}
 use Rattle.octets.proofs.by_words.same_words.Given as goal
 

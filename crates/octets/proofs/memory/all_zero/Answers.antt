@@ -1,8 +1,5 @@
 -- `octets::memory::all_zero` meets its contract: all bytes are zero exactly if the words are, and the bytes behind them.
-use mathlib.Core.Path.{◌≡◌, sym, ◌∙◌}
-use Prim.Native.Nat.{◌-◌, ◌*◌, ◌/◌}
-use native.Mathlib.Omega.{arith}
-use lib.ListN.{length}
+use Rattle.std.proofs.Common.{◌≡◌, sym, ◌∙◌, ◌-◌, ◌*◌, ◌/◌, arith, length}
 use Rattle.scheme.specs.Bytes.{all_zero, part}
 use Rattle.octets.proofs.Parts.{so_many, this_zero, front_nonzero, front_zero}
 use Rattle.octets.proofs.memory.all_zero.Goals as goal

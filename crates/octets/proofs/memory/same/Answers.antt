@@ -1,9 +1,6 @@
 -- `octets::memory::same` meets its contract: lists of different lengths are not the same; of the same length, they are exactly if their words are,
 -- and the bytes behind them.
-use mathlib.Core.Path.{◌≡◌, sym, ◌∙◌}
-use Prim.Native.Nat.{◌-◌, ◌*◌, ◌/◌}
-use native.Mathlib.Omega.{arith}
-use lib.ListN.{length}
+use Rattle.std.proofs.Common.{◌≡◌, sym, ◌∙◌, ◌-◌, ◌*◌, ◌/◌, arith, length}
 use Rattle.scheme.specs.Bytes.{same_bytes, part}
 use Rattle.scheme.proofs.Bytes.{lengths_differ}
 use Rattle.octets.proofs.Parts.{so_many, these_same, front_other, front_same}

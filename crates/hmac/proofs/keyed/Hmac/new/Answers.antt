@@ -10,6 +10,6 @@ returns c =
     let key = args.key.now in
     let block = b.padded-block in
     record {
-      inner = absorbed_with ipad key block.result block.ensures b.masked-inner.ensures args.front.now c.of_block_with.ensures;
-      outer = absorbed opad key block.result block.ensures b.masked-outer.ensures c.of_block.ensures;
+      inner = absorbed_with ipad key block.result block.ensures b.masked.ensures args.front.now c.of_block_with.ensures;
+      outer = absorbed opad key block.result block.ensures b.masked-2.ensures c.of_block.ensures;
     }

@@ -11,4 +11,4 @@ returns c m h whole =
     let at = length part / 64 * 64 in
     let hashed = c.blocks-2.ensures ∙ ap (λ (v : Words). over v part) h.words ∙ over_whole m part H₀ whole in
     let left = to_end part at ∙ ap (λ (k : ℕ). drop k part) (mul_comm (length part / 64) 64) ∙ sym (rest_whole m part whole) in
-    c.ended.ensures (m ++ part) hashed left (c.wrapping_add_u64-count.ensures.value ∙ stands_count m h part)
+    c.ended.ensures (m ++ part) hashed left (stands_count m h part)

@@ -10,4 +10,4 @@ returns c m h =
     held_append m part
     (held_short (rest m ++ part) (omega (arith, length-append (rest m) part, stands_place m h)) h.words
     (c.put.ensures ∙ stands_put m h part (omega arith))
-    (c.wrapping_add_u64-length.ensures.value ∙ stands_count m h part))
+    (stands_count m h part))
