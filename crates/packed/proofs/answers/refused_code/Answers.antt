@@ -5,7 +5,7 @@ use Rattle.packed.proofs.Packing.{number_fits}
 use Rattle.packed.proofs.answers.refused_code.Goals as goal
 
 pub code-requires : goal.code-requires
-code-requires c = (number_fits c.args.refusal _ c.refusal_number.ensures, c.requires)
+code-requires c = (number_fits c.args.refusal _ c.from.ensures, c.requires)
 
 pub returns : goal.returns
-returns c = c.code.ensures ∙ ap (λ n. packed n c.args.number) c.refusal_number.ensures
+returns c = c.code.ensures ∙ ap (λ n. packed n c.args.number) c.from.ensures
