@@ -76,5 +76,5 @@ fn outcome_code(outcome: Result<u64, Refusal>) -> u64
     requires { outcome_count outcome < 2 ^ 32 }
     ensures { result ≡ packed (outcome_refusal outcome) (outcome_count outcome) }
 {
-    verdict_code(outcome.map_err(|refusal| RefusedAt { refusal, number: 0 }))
+    verdict_code(outcome.map_err(RefusedAt::from))
 }
