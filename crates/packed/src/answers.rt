@@ -1,4 +1,4 @@
-// An answer of one word: two numbers, mostly the refusal, 0 with none, and a number beside it.
+// An answer of one word, since C takes one: two numbers, mostly the refusal, 0 with none, and a number beside it.
 ghost use Rattle.std.specs.Prelude.{◌≡◌, ◌<◌, ◌^◌};
 ghost use Rattle.scheme.specs.Answers.{refusal_number, verdict_refusal, verdict_number};
 ghost use Rattle.packed.specs.Surface.{packed};
