@@ -59,6 +59,7 @@ fn compress(s: Words, b: &[u8; 64], k: &[u32; 64]) -> Words
 fn load(b: &[u8; 64]) -> [u32; 16]
     ensures { result ≡ Fips.words b.now 16 }
 {
+    // By `array::from_fn` the words are not proved to be the block's.
     let mut w = [0; 16];
     for j in 0..16 {
         w[j] = word(b, j);
@@ -76,7 +77,7 @@ fn word(b: &[u8; 64], j: usize) -> u32
         + (u32::from(b[at + 2]) * 256 + u32::from(b[at + 3]))
 }
 
-// The first 16 rounds, on the words of the block. Written out as the others are.
+// The first 16 rounds, on the words of the block. Written out, as the others are, so that each constant stands in its instruction.
 fn first(s: Words, k: &[u32; 64], w: [u32; 16]) -> Words
     ensures { result ≡ Fips.rounds (λ t. slice_index k.now t) (λ t. slice_index w t) 16 s }
 {

@@ -9,8 +9,6 @@ pub mod keyed;
 
 use keyed::tag;
 use sha256::LENGTH_LIMIT;
-use std::error::Error;
-use std::fmt;
 
 // Why a call is refused: a message or a key is too long, or the length wanted is outside 16 to 32.
 #[derive(Clone, Copy, Debug, PartialEq, Eq)]
@@ -18,20 +16,6 @@ pub enum TagError {
     TooLong,
     BadTagLength,
 }
-
-impl fmt::Display for TagError {
-    fn fmt<W: fmt::Write>(&self, f: &mut fmt::Formatter<W>) -> fmt::Result {
-        match self {
-            TagError::TooLong => write!(
-                f,
-                "the key or the message is longer than {LENGTH_LIMIT} bytes"
-            ),
-            TagError::BadTagLength => write!(f, "a tag has {SHORTEST_TAG} to {LONGEST_TAG} bytes"),
-        }
-    }
-}
-
-impl Error for TagError {}
 
 // The refusal's number.
 impl From<TagError> for u32 {

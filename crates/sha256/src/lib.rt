@@ -7,20 +7,10 @@ ghost use Rattle.sha256.specs.Call.{digest_of, refusal_of};
 pub mod state;
 
 use state::Sha256;
-use std::error::Error;
-use std::fmt;
 
 // Why a call is refused: the message is too long.
 #[derive(Clone, Copy, Debug, PartialEq, Eq)]
 pub struct TooLong;
-
-impl fmt::Display for TooLong {
-    fn fmt<W: fmt::Write>(&self, f: &mut fmt::Formatter<W>) -> fmt::Result {
-        write!(f, "the message is longer than {LENGTH_LIMIT} bytes")
-    }
-}
-
-impl Error for TooLong {}
 
 // The refusal's number.
 impl From<TooLong> for u32 {

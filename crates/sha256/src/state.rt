@@ -200,7 +200,7 @@ pub fn first_block(part: &[u8]) -> [u8; 64]
     put([0; 64], 0, part)
 }
 
-// The block with the part written at a place.
+// The block with the part written at a place. Of an array of N bytes the contract would speak at two moments, so a digest has `put_word`.
 fn put(block: [u8; 64], at: usize, part: &[u8]) -> [u8; 64]
     requires { at + length part.now ≤ 64 }
     ensures { result ≡ take at block ++ part.now ++ drop (at + length part.now) block }
