@@ -27,7 +27,7 @@ impl Bench {
     // A state of zeros, and nothing lent.
     pub fn new() -> Self {
         Bench {
-            state: zeros(),
+            state: State::default(),
             store: Memory::new(),
             logs: Memory::new(),
             seal: Memory::new(),
@@ -60,7 +60,7 @@ impl Bench {
 
     // A state of zeros, the memories of the record's lengths, filled, and nothing that the auditor keeps.
     fn prepare(&mut self, record: Record) {
-        self.state = zeros();
+        self.state = State::default();
         self.store.resize(record.size(12));
         for (i, byte) in self.store.lent_mut().iter_mut().enumerate() {
             *byte = record.store_byte(i);
@@ -230,16 +230,6 @@ impl Bench {
             Part::Seal => self.seal.resize(n),
             Part::Auditor => self.auditor.resize(n),
         }
-    }
-}
-
-fn zeros() -> State {
-    State {
-        chunk: ChunkNumber(0),
-        offset: RatchetOffset(0),
-        key: [0; 32],
-        lengths: [0; 8],
-        seal_length: 0,
     }
 }
 

@@ -37,10 +37,3 @@ pub fn le32(n: u32) -> [u8; 4]
 {
     n.to_le_bytes()
 }
-
-// A byte as a number of four bytes.
-pub fn wide(x: u8) -> u32
-    ensures { (result ≡ x) × (result < 256) }
-{
-    u32::from(x)
-}

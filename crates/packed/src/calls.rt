@@ -3,8 +3,8 @@ ghost use Rattle.std.specs.Prelude.{◌≡◌, ◌<◌, ◌^◌};
 ghost use Rattle.scheme.specs.Answers.{outcome_refusal, outcome_count};
 ghost use Rattle.packed.specs.Surface.{packed, Opened, Appended, Closed, Restarted};
 
-use crate::answers::{code, refused_code};
-use scheme::{Outcome, Sealed, State};
+use crate::answers::verdict_code;
+use scheme::{Refusal, RefusedAt, Sealed, State};
 
 // The answer in one word, and the state that the call gives.
 #[derive(Clone, Copy)]
@@ -23,8 +23,7 @@ pub fn open_packed(
 ) -> Packed
     ensures { Opened store.now logs.now lengths.now seal.now seal_length result }
 {
-    let sealed = sealer::open(store, logs, lengths, seal, seal_length);
-    pack(sealed)
+    pack(sealer::open(store, logs, lengths, seal, seal_length))
 }
 
 pub fn append_packed(
@@ -38,15 +37,13 @@ pub fn append_packed(
     ensures { Appended state store.old logs.old seal.old phase bytes.now
         result store.new logs.new seal.new }
 {
-    let sealed = sealer::append(state, store, logs, seal, phase, bytes);
-    pack(sealed)
+    pack(sealer::append(state, store, logs, seal, phase, bytes))
 }
 
 pub fn close_packed(state: State, store: &[u8], logs: &[u8], seal: &mut [u8]) -> Packed
     ensures { Closed state store.now logs.now seal.old result seal.new }
 {
-    let sealed = sealer::close(state, store, logs, seal);
-    pack(sealed)
+    pack(sealer::close(state, store, logs, seal))
 }
 
 pub fn restart_packed(
@@ -59,8 +56,7 @@ pub fn restart_packed(
     ensures { Restarted state store.old logs.now seal.old number
         result store.new seal.new }
 {
-    let sealed = sealer::restart(state, store, logs, seal, number);
-    pack(sealed)
+    pack(sealer::restart(state, store, logs, seal, number))
 }
 
 // What a call gives, its answer in one word.
@@ -69,21 +65,16 @@ fn pack(sealed: Sealed) -> Packed
     ensures { (result.code ≡ packed (outcome_refusal sealed.outcome) (outcome_count sealed.outcome))
         × (result.state ≡ sealed.state) }
 {
-    let outcome = sealed.outcome;
-    let state = sealed.state;
     Packed {
-        code: outcome_code(outcome),
-        state,
+        code: outcome_code(sealed.outcome),
+        state: sealed.state,
     }
 }
 
 // The answer of an outcome: a count, or a refusal with the number 0.
-fn outcome_code(outcome: Outcome) -> u64
+fn outcome_code(outcome: Result<u64, Refusal>) -> u64
     requires { outcome_count outcome < 2 ^ 32 }
     ensures { result ≡ packed (outcome_refusal outcome) (outcome_count outcome) }
 {
-    match outcome {
-        Outcome::Done(count) => code(0, count),
-        Outcome::Refused(refusal) => refused_code(refusal, 0),
-    }
+    verdict_code(outcome.map_err(|refusal| RefusedAt { refusal, number: 0 }))
 }

@@ -4,11 +4,11 @@ use Rattle.packed.proofs.Packing.{closes_count, count_fits, packed_answer}
 use Rattle.packed.proofs.calls.close_packed.Goals as goal
 
 pub pack-requires : goal.pack-requires
-pack-requires c = count_fits _ _ c.close-sealed.ensures.gives (closes_count _ _ _ _)
+pack-requires c = count_fits _ _ c.close.ensures.gives (closes_count _ _ _ _)
 
 pub returns : goal.returns
 returns c =
-    let left = c.close-sealed.ensures in
+    let left = c.close.ensures in
     record {
       code = packed_answer _ _ left.gives c.pack.result c.pack.ensures.0;
       fits = closes_count _ _ _ _;

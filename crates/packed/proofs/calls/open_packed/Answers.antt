@@ -4,11 +4,11 @@ use Rattle.packed.proofs.Packing.{opens_count, count_fits, packed_answer}
 use Rattle.packed.proofs.calls.open_packed.Goals as goal
 
 pub pack-requires : goal.pack-requires
-pack-requires c = count_fits _ _ c.open-sealed.ensures (opens_count _ _ _ _ _)
+pack-requires c = count_fits _ _ c.open.ensures (opens_count _ _ _ _ _)
 
 pub returns : goal.returns
 returns c =
-    let left = c.open-sealed.ensures in
+    let left = c.open.ensures in
     record {
       code = packed_answer _ _ left c.pack.result c.pack.ensures.0;
       fits = opens_count _ _ _ _ _;

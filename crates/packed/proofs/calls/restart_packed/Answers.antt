@@ -4,11 +4,11 @@ use Rattle.packed.proofs.Packing.{restarts_count, count_fits, packed_answer}
 use Rattle.packed.proofs.calls.restart_packed.Goals as goal
 
 pub pack-requires : goal.pack-requires
-pack-requires c = count_fits _ _ c.restart-sealed.ensures.gives (restarts_count _ _ _ _ _)
+pack-requires c = count_fits _ _ c.restart.ensures.gives (restarts_count _ _ _ _ _)
 
 pub returns : goal.returns
 returns c =
-    let left = c.restart-sealed.ensures in
+    let left = c.restart.ensures in
     record {
       code = packed_answer _ _ left.gives c.pack.result c.pack.ensures.0;
       fits = restarts_count _ _ _ _ _;

@@ -8,4 +8,4 @@ pub returns : goal.returns
 unfolding hashed
 returns c =
     let size : length c.args.block ≡ 64 = search rules in
-    held_same c.whole.ensures c.new.ensures.words (omega (arith, size))
+    held_same c.whole.ensures c.new-start.ensures.words (omega (arith, size))
