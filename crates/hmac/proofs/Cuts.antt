@@ -1,4 +1,4 @@
--- Laws of an output that is cut: byte after byte, and at its full length, where it stays whole. An HMAC is a digest, so it has 32 bytes, whatever
+-- Laws of an output that is cut: at its full length, where it stays whole. An HMAC is a digest, so it has 32 bytes, whatever
 -- is hashed.
 use mathlib.Core.Path.{◌≡◌, refl, ap, ◌∙◌}
 use mathlib.Core.List.{List, ◌++◌, append-nil}
