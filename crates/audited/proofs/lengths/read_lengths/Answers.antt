@@ -1,7 +1,6 @@
 use mathlib.Core.Path.{◌≡◌, refl, sym, ap, ◌∙◌}
 use mathlib.Core.List.{[], ◌∷◌, ◌++◌}
 use Prim.Native.Nat.{◌*◌}
-use native.Mathlib.Nat.{mul_comm}
 use native.Mathlib.Numerals.{add-one}
 use native.Mathlib.Omega.{arith}
 use borrow.Author.Rules.{rules}
@@ -22,7 +21,7 @@ loop-i-preserved c =
     let read = c.read_u32 in
     let put = take-suc-set l.lengths l.i read.result (omega arith) in
     let first = ap (λ ls. ls ++ (read.result ∷ [])) l.invariant.1 in
-    let here : read.result ≡ num (part bytes (4 * l.i) 4) = cc (mul_comm l.i 4) in
+    let here : read.result ≡ num (part bytes (4 * l.i) 4) = cc in
     let last = ap (λ n. words l.i bytes ++ (n ∷ [])) here in
     (search rules, rw add-one (put ∙ first ∙ last ∙ sym (one_length_more l.i bytes)), simp length-set l.invariant.2)
 
