@@ -8,7 +8,7 @@ use scheme::ranges::MAX_PHASES;
 // The bytes of a length.
 const LENGTH_SIZE: usize = 4;
 
-// So many lengths, and zeros behind them.
+// So many lengths, and zeros behind them. No heap: they stand in an array.
 #[derive(Clone, Copy)]
 pub struct Lengths {
     all: [u32; 8],
@@ -52,6 +52,7 @@ fn read_lengths(bytes: &[u8], count: usize) -> [u32; 8]
     requires { (count ≤ 8) × (4 * count ≤ length bytes.now) }
     ensures { take count result ≡ words count bytes.now }
 {
+    // By place in both: there may be more bytes, and more room, than lengths.
     let mut lengths = [0; 8];
     for i in 0..count {
         lengths[i] = read_u32(bytes, LENGTH_SIZE * i);

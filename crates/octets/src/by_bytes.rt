@@ -1,4 +1,4 @@
-// Tests on bytes, one at a step.
+// Tests on bytes, one at a step: the tails of those by words, and what the benchmark sets beside them.
 ghost use Rattle.std.specs.Prelude.{◌≡◌};
 ghost use Rattle.scheme.specs.Bytes.{all_zero, same_bytes};
 

@@ -12,6 +12,7 @@ pub fn zero_words(bytes: &[u8], count: usize) -> bool
     requires { 8 * count ≤ length bytes.now }
     ensures { result ≡ all_zero (take (8 * count) bytes.now) }
 {
+    // By place: an iterator over words would first cut the bytes to so many of them.
     let mut met = 0;
     for i in 0..count {
         met |= read_u64(bytes, WORD_LENGTH * i);
@@ -40,6 +41,7 @@ fn same_together(a: &[u8], b: &[u8], from: usize, count: usize) -> bool
     requires { (from + 8 * count ≤ length a.now) × (from + 8 * count ≤ length b.now) }
     ensures { result ≡ same_bytes (part a.now from (8 * count)) (part b.now from (8 * count)) }
 {
+    // By place, as above, and in two parts at once.
     let mut differing = 0;
     for j in 0..count {
         let at = from + WORD_LENGTH * j;

@@ -15,7 +15,7 @@ pub fn least_ratchet_packed(counts: &[u32], chunks: u32) -> u64
     ratchet_code(least_ratchet(counts, chunks))
 }
 
-// The answer of a plan: the ratchet, 0 where none lasts, or the refusal.
+// The answer of a plan: the ratchet, 0 where none lasts, or the refusal. No `verdict_code`: a plan may have `None` beside its number.
 fn ratchet_code(answer: Result<Option<u32>, Refusal>) -> u64
     ensures { result ≡ packed (ratchet_refusal answer) (ratchet_number answer) }
 {
