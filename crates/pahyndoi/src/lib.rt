@@ -41,6 +41,7 @@ pub extern "C" fn pahyndoi_hmac_sha256(
 ) -> u32
     ensures { Tagged key.now message.now wanted result tag.new }
 {
+    // Written out as the hash's is: C calls both, and their refusals are of two types.
     match hmac::hmac(key, message, wanted) {
         Ok(bytes) => {
             *tag = bytes;

@@ -123,10 +123,7 @@ fn counting() -> [u8; 128]
 }
 
 fn hash(out: &mut impl Write, name: &str, message: &[u8]) -> io::Result<()> {
-    match sha256::sha256(message) {
-        Ok(digest) => line(out, name, 0, digest),
-        Err(refusal) => line(out, name, u32::from(refusal), [0; 32]),
-    }
+    answer(out, name, sha256::sha256(message))
 }
 
 fn tag(
@@ -136,9 +133,18 @@ fn tag(
     message: &[u8],
     wanted: usize,
 ) -> io::Result<()> {
-    match hmac::hmac(key, message, wanted) {
-        Ok(tag) => line(out, name, 0, tag),
-        Err(refusal) => line(out, name, u32::from(refusal), [0; 32]),
+    answer(out, name, hmac::hmac(key, message, wanted))
+}
+
+// The line of a call, whatever its refusals are.
+fn answer<E: Into<u32>>(
+    out: &mut impl Write,
+    name: &str,
+    bytes: Result<[u8; 32], E>,
+) -> io::Result<()> {
+    match bytes {
+        Ok(bytes) => line(out, name, 0, bytes),
+        Err(refusal) => line(out, name, refusal.into(), [0; 32]),
     }
 }
 
