@@ -12,7 +12,10 @@ pub fn write(memory: &mut [u8], at: usize, bytes: &[u8])
     requires { at + length bytes.now ≤ length memory.old }
     ensures { memory.new ≡ splice memory.old at bytes.now }
 {
-    memory[at..at + bytes.len()].copy_from_slice(bytes);
+    // A loop by place: `copy_from_slice` asks a firmware for `memmove`, and the archive may ask for `memcpy` and `memset` alone.
+    for i in 0..bytes.len() {
+        memory[at + i] = bytes[i];
+    }
 }
 
 // Zeros written at a place, and the rest of the memory as it was.
