@@ -587,7 +587,7 @@ uint64_t pahyndoi_least_ratchet(const uint32_t *counts, size_t counts_count,
  * arguments and return address: open, append, close and restart; audit, item_at
  * and data_at; sha256, hmac_sha256 and least_ratchet. None depends on the set.
  * Measured and read off the machine code for the archive as rt lib builds it
- * for x86-64, with 600 bytes and more to spare for memcpy and memset; not
+ * for x86-64, with 380 bytes and more to spare for memcpy and memset; not
  * proved. Running out of stack is outside the proofs as well.
  *
  * Link memcpy and memset statically or with -z now. A dynamic linker that
