@@ -49,7 +49,7 @@ impl Bench {
             Operation::SetState => self.set_state(record),
             Operation::SetBytes => self.set_bytes(record),
             Operation::SetLength => self.set_length(record),
-            Operation::Keep => self.auditor = self.store,
+            Operation::Keep => self.keep(),
             Operation::Audit => self.audit(out, record)?,
             Operation::Lookup => self.lookup(out, record)?,
             Operation::Plan => plan(out, record)?,
@@ -216,6 +216,15 @@ impl Bench {
             Part::Seal => self.seal.lent_mut(),
             Part::Auditor => self.auditor.lent_mut(),
         }
+    }
+
+    // The auditor keeps what is lent of the store, and no more is copied.
+    fn keep(&mut self) {
+        let store = self.store.lent();
+        self.auditor.resize(store.len());
+        let kept = self.auditor.lent_mut();
+        let n = store.len().min(kept.len());
+        kept[..n].copy_from_slice(&store[..n]);
     }
 
     // So much lent of the memory that the record names.
