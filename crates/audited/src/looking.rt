@@ -6,6 +6,7 @@ use lookup::{data_place, item_at};
 use packed::answers::{code, verdict_code};
 
 // `lookup::item_at` with the lengths that the bytes give: what it answers in one word.
+#[tactic(auto, using(crate::proofs::Listing::same_lookup))]
 pub fn item_at_packed(
     device: &[u8],
     auditor: &[u8],
